@@ -1,0 +1,13 @@
+-- The definitions that everything else is measured by.
+pub mod Queue
+pub mod Replay
+pub mod History
+pub mod Own
+pub mod Proper
+pub mod Fault
+pub mod Device
+pub mod Limits
+pub mod Stored
+pub mod PlainLane
+pub mod Memory
+pub mod Adapter

@@ -1,0 +1,10 @@
+-- What a user meets: the commands, the usage line and the fault lines, and how much is read and written.
+pub mod Command
+pub mod Usage
+pub mod Line
+pub mod Output
+pub mod Streams
+pub mod Causes
+pub mod Status
+pub mod Runs
+pub mod Complete

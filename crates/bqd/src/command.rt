@@ -1,0 +1,29 @@
+// What the words of the command line ask for.
+ghost use Rattle.std.specs.Prelude.{◌≡◌, map};
+ghost use Rattle.std.specs.String.{string_bytes};
+ghost use Rattle.bqd.specs.Command.{command_in};
+
+/// What the program is asked to do.
+#[derive(Clone, Copy, Debug, PartialEq, Eq)]
+pub enum Command {
+    /// Answers the jobs of a job file.
+    Run {
+        /// How many threads answer jobs.
+        hands: u32,
+        /// How many operations at most go to a queue as one.
+        batch: u32,
+    },
+}
+
+/// The command that these words are, the words after the program's name. They are compared letter by letter.
+pub fn command_of(words: &[String]) -> Option<Command>
+    ensures { result ≡ command_in (map (λ w. string_bytes w) words.now) }
+{
+    match words {
+        [name, hands, batch]
+            if name.as_str() == "run" && hands.as_str() == "1" && batch.as_str() == "1" => {
+            Some(Command::Run { hands: 1, batch: 1 })
+        }
+        _ => None,
+    }
+}

@@ -1,0 +1,203 @@
+use crate::command::{Command, command_of};
+use crate::input::{InputFault, MAX_READ, read_input};
+use crate::line::fault_line;
+use crate::output::write_all;
+use crate::usage::usage;
+use bq_model::{Failed, Sink, Source, TextCause, TextFault};
+use std::alloc::{AllocError, Global};
+use std::test::Fail;
+
+/// A source of these bytes that gives at most `step` of them at once and fails at read `fails_at`, from 1.
+#[derive(Drop)]
+struct Drip<'a> {
+    rest: &'a [u8],
+    step: usize,
+    reads: u64,
+    fails_at: u64,
+}
+
+impl Source for Drip<'_> {
+    ghost use Rattle.std.specs.Prelude.{None};
+
+    ghost left = { λ _. None };
+
+    ghost faults = { λ s. s.reads };
+
+    fn read(&mut self, buf: &mut [u8]) -> Result<usize, Failed> {
+        self.reads = self.reads.saturating_add(1);
+        if self.reads == self.fails_at {
+            return Err(Failed);
+        }
+        let n = self.step.min(self.rest.len()).min(buf.len());
+        buf[..n].copy_from_slice(&self.rest[..n]);
+        self.rest = &self.rest[n..];
+        Ok(n)
+    }
+}
+
+/// A source without an end.
+#[derive(Drop)]
+struct Endless {
+    reads: u64,
+}
+
+impl Source for Endless {
+    ghost use Rattle.std.specs.Prelude.{None};
+
+    ghost left = { λ _. None };
+
+    ghost faults = { λ _. 0 };
+
+    fn read(&mut self, buf: &mut [u8]) -> Result<usize, Failed> {
+        self.reads = self.reads.saturating_add(1);
+        Ok(buf.len())
+    }
+}
+
+/// A sink that takes at most `step` bytes at once and fails at write `fails_at`, from 1. It is to be handed exactly
+/// `rest` each time.
+#[derive(Drop)]
+struct Narrow<'a> {
+    rest: &'a [u8],
+    step: usize,
+    writes: u64,
+    fails_at: u64,
+    handed_all: bool,
+}
+
+impl Sink for Narrow<'_> {
+    ghost use Rattle.std.specs.Prelude.{None};
+
+    ghost written = { λ _. None };
+
+    ghost faults = { λ s. s.writes };
+
+    fn write(&mut self, bytes: &[u8]) -> Result<usize, Failed> {
+        self.writes = self.writes.saturating_add(1);
+        self.handed_all = self.handed_all && bytes == self.rest;
+        if self.writes == self.fails_at {
+            return Err(Failed);
+        }
+        let n = self.step.max(1).min(bytes.len());
+        self.rest = &self.rest[n.min(self.rest.len())..];
+        Ok(n)
+    }
+}
+
+fn words(alloc: Global, texts: &[&str]) -> Result<Vec<String>, AllocError> {
+    let mut words = Vec::new(alloc);
+    for text in texts {
+        words.push(String::from_str(alloc, text)?)?;
+    }
+    Ok(words)
+}
+
+#[test]
+fn only_run_1_1_is_a_command(rt: HostRuntime) -> Result<(), Fail> {
+    let run = Some(Command::Run { hands: 1, batch: 1 });
+    let none: [&str; 0] = [];
+    assert_eq!(rt; command_of(&words(rt.alloc(), &["run", "1", "1"])?), run);
+    assert_eq!(rt; command_of(&words(rt.alloc(), &none)?), None);
+    assert_eq!(rt; command_of(&words(rt.alloc(), &["run", "1"])?), None);
+    assert_eq!(rt; command_of(&words(rt.alloc(), &["run", "01", "1"])?), None);
+    assert_eq!(rt; command_of(&words(rt.alloc(), &["run", "1", "2"])?), None);
+    assert_eq!(rt; command_of(&words(rt.alloc(), &["Run", "1", "1"])?), None);
+    assert_eq!(rt;
+        command_of(&words(rt.alloc(), &["run", "1", "1", "1"])?),
+        None
+    );
+    Ok(())
+}
+
+#[test]
+fn lines_read_as_they_should(rt: HostRuntime) {
+    let named =
+        "usage: bqd run <hands> <batch> | check | play | gen <n> | drill <n> <hands> <batch>\n";
+    assert!(rt; usage() == named.as_bytes());
+    for (line, cause, text) in [
+        (
+            103,
+            TextCause::BlockTooLong,
+            "bqd: line 103: block too long\n",
+        ),
+        (0, TextCause::OtherForm, "bqd: line 0: other form\n"),
+        (
+            4294967295,
+            TextCause::BusyCaller,
+            "bqd: line 4294967295: busy caller\n",
+        ),
+    ] {
+        assert!(rt; fault_line(TextFault { line, cause }).as_str() == text);
+    }
+}
+
+#[test]
+fn input_is_read_to_its_end(rt: HostRuntime) -> Result<(), Fail> {
+    let mut source = Drip {
+        rest: b"bqjobs 1\n",
+        step: 4,
+        reads: 0,
+        fails_at: 0,
+    };
+    let input = read_input(rt.alloc(), &mut source)?;
+    assert!(rt; input.as_slice() == b"bqjobs 1\n".as_slice());
+    // 4, 4 and 1 bytes, and the end
+    assert_eq!(rt; source.reads, 4);
+    Ok(())
+}
+
+#[test]
+fn failed_read_ends_the_reading(rt: HostRuntime) {
+    let mut source = Drip {
+        rest: b"bqjobs 1\n",
+        step: 4,
+        reads: 0,
+        fails_at: 2,
+    };
+    assert!(rt;
+        read_input(rt.alloc(), &mut source).is_err_and(|fault| fault == InputFault::Failed)
+    );
+    assert_eq!(rt; source.reads, 2);
+}
+
+#[test]
+fn endless_input_is_cut_one_byte_past_a_text(rt: HostRuntime) -> Result<(), Fail> {
+    let mut source = Endless { reads: 0 };
+    let input = read_input(rt.alloc(), &mut source)?;
+    assert_eq!(rt; input.len(), MAX_READ);
+    // 256 pieces of 65,536 bytes, and one byte
+    assert_eq!(rt; source.reads, 257);
+    Ok(())
+}
+
+#[test]
+fn each_write_is_handed_all_that_is_to_come(rt: HostRuntime) {
+    for (step, fails_at, ok, left, writes) in [
+        (3, 0, true, 0, 3),
+        (8, 0, true, 0, 1),
+        (3, 2, false, 5, 2),
+        (3, 1, false, 8, 1),
+    ] {
+        let text = b"0 5\n1 1\n".as_slice();
+        let mut sink = Narrow {
+            rest: text,
+            step,
+            writes: 0,
+            fails_at,
+            handed_all: true,
+        };
+        assert_eq!(rt; write_all(&mut sink, text).is_ok(), ok);
+        assert_eq!(rt; sink.rest.len(), left);
+        assert_eq!(rt; sink.writes, writes);
+        assert!(rt; sink.handed_all);
+    }
+    let mut sink = Narrow {
+        rest: b"",
+        step: 1,
+        writes: 0,
+        fails_at: 1,
+        handed_all: true,
+    };
+    assert!(rt; write_all(&mut sink, b"").is_ok());
+    assert_eq!(rt; sink.writes, 0);
+}

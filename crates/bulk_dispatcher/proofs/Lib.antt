@@ -1,0 +1,3 @@
+pub mod TurnsLemmas
+pub mod BooksLemmas
+pub mod RepliesLemmas

@@ -1,0 +1,4 @@
+-- What the books and the replies of a file show.
+pub mod Books
+pub mod Replies
+pub mod Turns

@@ -1,0 +1,2 @@
+-- What a job answers.
+pub mod Answer
