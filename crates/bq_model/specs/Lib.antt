@@ -11,3 +11,4 @@ pub mod Stored
 pub mod PlainLane
 pub mod Memory
 pub mod Adapter
+pub mod Bounded

@@ -1,14 +1,16 @@
 //! The queue that everything else is measured by, and what the other crates pass to one another.
 //!
 //! `op` and `group` have operations, answers and groups; `shape` the limits of a lane; `items` the lists that
-//! contracts see as lists; `error` the refusals and `fault` the faults of a text; `source` and `sink` the two
-//! ends of the program, `memory_source` and `memory_sink` those over memory, `adapter` those over std's readers
-//! and writers; `plain_lane` the lane of one caller, `stored` how it keeps its history, and `book` the history
-//! that it leaves. The definitions stand in `specs/`, one notion a file.
+//! contracts see as lists, and `bounded` those with a capacity, as batches and their answers; `error` the
+//! refusals and `fault` the faults of a text; `source` and `sink` the two ends of the program, `memory_source` and
+//! `memory_sink` those over memory, `adapter` those over std's readers and writers; `plain_lane` the lane of one
+//! caller, `stored` how it keeps its history, and `book` the history that it leaves. The definitions stand in
+//! `specs/`, one notion a file.
 #![tactic(auto)]
 
 mod adapter;
 mod book;
+mod bounded;
 mod error;
 mod fault;
 mod group;
@@ -26,6 +28,7 @@ mod stream_tests;
 
 pub use adapter::{ReadSource, WriteSink};
 pub use book::Book;
+pub use bounded::{Answers, Batch, Bounded};
 pub use error::{Failed, OutOfMemory, Refusal};
 pub use fault::{TextCause, TextFault, TextRefused};
 pub use group::Group;

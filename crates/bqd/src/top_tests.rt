@@ -2,9 +2,10 @@
 use crate::ended::Ended;
 use crate::top::top;
 use bq_model::{MemorySink, MemorySource};
-use bulk_dispatcher::NoGate;
+use bulk_dispatcher::{Gate, NoGate};
 use std::alloc::{AllocError, Global};
 use std::process::Abort;
+use std::sync::atomic::{AtomicU64, Ordering};
 use std::test::Fail;
 use std::thread::Threads;
 
@@ -78,9 +79,19 @@ fn streams(alloc: Global, case: &Case<'_>) -> Result<(MemorySource, MemorySink, 
 
 /// Makes the call, and demands that it leaves what it must.
 fn made<R: Threads + Abort + Sync>(rt: &R, alloc: Global, case: &Case<'_>) -> Result<Ended, Fail> {
+    made_past(rt, alloc, case, &NoGate)
+}
+
+/// The same, with a gate that the hand passes.
+fn made_past<R: Threads + Abort + Sync, G: Gate>(
+    rt: &R,
+    alloc: Global,
+    case: &Case<'_>,
+    gate: &G,
+) -> Result<Ended, Fail> {
     let words = texts(alloc, case.words)?;
     let (mut source, mut out, mut err) = streams(alloc, case)?;
-    let ended = top(rt, alloc, &words, &mut source, &mut out, &mut err, &NoGate);
+    let ended = top(rt, alloc, &words, &mut source, &mut out, &mut err, gate);
     assert!(rt;
         ended.status == case.status,
         "the status is {}",
@@ -116,6 +127,31 @@ fn two_lines_are_answered(rt: HostRuntime) -> Result<(), Fail> {
     assert!(rt; reply.job() == 0 && reply.lane() == 0);
     assert!(rt; reply.caller() == 0 && reply.serial() == 1);
     assert!(rt; reply.text().as_slice() == b"5".as_slice());
+    Ok(())
+}
+
+/// A gate that adds up the numbers of the jobs, counted from 1, and a thousand for each hand but the first.
+#[derive(Drop)]
+struct Passes {
+    sum: AtomicU64,
+}
+
+impl Gate for Passes {
+    fn pass(&self, hand: u32, job: u32) {
+        let weight = u64::from(job) + 1 + 1000 * u64::from(hand);
+        self.sum.fetch_add(weight, Ordering::SeqCst);
+    }
+}
+
+#[test]
+fn each_job_passes_the_gate_once(rt: HostRuntime) -> Result<(), Fail> {
+    let gate = Passes {
+        sum: AtomicU64::new(0),
+    };
+    let input = b"bqjobs 1\njob 0 sum\njob 0 sum 1\njob 0 sum 2\n";
+    let three = quiet_case(RUN, input, 0, b"0 0\n1 1\n2 2\n", b"");
+    made_past(&rt, rt.alloc(), &three, &gate)?;
+    assert_eq!(rt; gate.sum.load(Ordering::SeqCst), 6);
     Ok(())
 }
 

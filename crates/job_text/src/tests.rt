@@ -20,7 +20,7 @@ fn assert_sum(rt: &impl Abort, file: &JobFile, job: u32, numbers: &[u64]) {
             assert_eq!(rt; lane, 0, "lane of job {job}");
             assert_eq!(rt; found.as_slice(), numbers, "job {job}");
         }
-        None => panic!(rt; "no job {job}"),
+        _ => panic!(rt; "no sum at job {job}"),
     }
 }
 

@@ -1,2 +1,5 @@
 -- What a job answers.
 pub mod Answer
+pub mod Mix
+pub mod Words
+pub mod CountMap

@@ -1,5 +1,5 @@
 use Rattle.std.proofs.Common.{◌≡◌, ◌*◌, ◌≤◌, sum, take}
-use Rattle.job_work.proofs.answers.total.Given as goal
+use Rattle.job_work.proofs.sum.total.Given as goal
 
 -- the numbers so far are added up, and each is below 2^64
 abbrev pub invariant-loop-number : goal.invariant-loop-number

@@ -1,0 +1,5 @@
+pub mod ExcessLaws
+pub mod CountsLaws
+pub mod ReplayLaws
+pub mod PlaceLaws
+pub mod PairingLaws

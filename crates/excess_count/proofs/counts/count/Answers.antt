@@ -1,0 +1,9 @@
+use Rattle.std.proofs.Common.{◌∙◌, ap, arith}
+use Rattle.std.proofs.lemmas.List.{take_all}
+use Rattle.excess_count.specs.Counts.{counts_of}
+use Rattle.excess_count.proofs.CountsLaws.{IsExcess-counted}
+use Rattle.excess_count.proofs.counts.count.Goals as goal
+
+pub returns-clause-excess_is_the_greatest : goal.returns-clause-excess_is_the_greatest
+returns-clause-excess_is_the_greatest c =
+    IsExcess-counted _ _ (c.loop-op.invariant.counted ∙ ap counts_of (take_all c.loop-op.op-index c.args.ops.now (omega arith)))

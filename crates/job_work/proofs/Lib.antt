@@ -1,0 +1,4 @@
+pub mod Joined
+pub mod Rising
+pub mod WordCounts
+pub mod WordLaws
