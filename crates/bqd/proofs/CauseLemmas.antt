@@ -4,7 +4,8 @@ use Rattle.std.specs.Io.KnownBytes.{Appends, Consumes, IsAtEnd}
 use Rattle.bq_model.specs.declared.group.Group.{Group}
 use Rattle.bq_model.specs.declared.fault.TextFault.{TextFault}
 use Rattle.job_text.specs.declared.file.Unit.{Unit as JobUnit}
-use Rattle.job_text.specs.Grammar.{jobs_of, most_bytes}
+use Rattle.text_lines.specs.Reading.{most_bytes}
+use Rattle.bqd.specs.Input.{file_of}
 use Rattle.job_text.specs.Replies.{replies_of}
 use Rattle.bulk_dispatcher.specs.declared.done.Done.{Done}
 use Rattle.bulk_dispatcher.specs.declared.reply.Reply.{Reply}
@@ -21,7 +22,7 @@ use Rattle.bqd.specs.Runs.{Explains}
 -- ---- what a run says, for all that the source had
 
 pub run_of : (before : Option (List ℕ)) (out : Change) (file : List JobUnit) (replies : List Reply) (books : List (List Group))
-    → IfSome before (λ bytes. jobs_of bytes ≡ Ok file) → Appends out.before out.after (replies_of file) → BooksFit file 2 books → RepliesFit file books replies
+    → IfSome before (λ bytes. file_of bytes ≡ Ok file) → Appends out.before out.after (replies_of file) → BooksFit file 2 books → RepliesFit file books replies
     → IfSome before (AreRun out replies books)
 run_of None out file replies books is written fit named = tt
 run_of (Some bytes) out file replies books is written fit named = record {
@@ -32,17 +33,17 @@ run_of (Some bytes) out file replies books is written fit named = record {
   replies_fit = named;
 }
 
-pub refused_of : (before : Option (List ℕ)) (err : Change) (fault : TextFault) → IfSome before (λ bytes. jobs_of bytes ≡ Err fault) → Appends err.before err.after (fault_text fault) → IfSome before (AreRefused err)
+pub refused_of : (before : Option (List ℕ)) (err : Change) (fault : TextFault) → IfSome before (λ bytes. file_of bytes ≡ Err fault) → Appends err.before err.after (fault_text fault) → IfSome before (AreRefused err)
 refused_of None err fault is told = tt
 refused_of (Some bytes) err fault is told = record { fault = fault; is_fault = is; told = told }
 
-pub fails_at_out : (before : Option (List ℕ)) (out err : Change) (file : List JobUnit) → IfSome before (λ bytes. jobs_of bytes ≡ Ok file) → FailsAt out err (replies_of file) → IfSome before (FailsToTell out err)
+pub fails_at_out : (before : Option (List ℕ)) (out err : Change) (file : List JobUnit) → IfSome before (λ bytes. file_of bytes ≡ Ok file) → FailsAt out err (replies_of file) → IfSome before (FailsToTell out err)
 fails_at_out None out err file is fails = tt
 fails_at_out (Some bytes) out err file is fails =
     let P : Result (List JobUnit) TextFault → Type 0 = λ r. MatchResult r (λ f. FailsAt out err (replies_of f)) (λ fault. FailsAt err out (fault_text fault)) in
     subst P (sym is) fails
 
-pub fails_at_err : (before : Option (List ℕ)) (out err : Change) (fault : TextFault) → IfSome before (λ bytes. jobs_of bytes ≡ Err fault) → FailsAt err out (fault_text fault) → IfSome before (FailsToTell out err)
+pub fails_at_err : (before : Option (List ℕ)) (out err : Change) (fault : TextFault) → IfSome before (λ bytes. file_of bytes ≡ Err fault) → FailsAt err out (fault_text fault) → IfSome before (FailsToTell out err)
 fails_at_err None out err fault is fails = tt
 fails_at_err (Some bytes) out err fault is fails =
     let P : Result (List JobUnit) TextFault → Type 0 = λ r. MatchResult r (λ f. FailsAt out err (replies_of f)) (λ fault. FailsAt err out (fault_text fault)) in
@@ -50,7 +51,7 @@ fails_at_err (Some bytes) out err fault is fails =
 
 -- ---- what a run of a file, or the line of a fault, comes to
 
-pub explains-answer : (source out err : Change) (r : Result Done Status) (file : List JobUnit) → IsAtEnd source.after → IfSome source.before (λ bytes. jobs_of bytes ≡ Ok file) → IsUntouched err
+pub explains-answer : (source out err : Change) (r : Result Done Status) (file : List JobUnit) → IsAtEnd source.after → IfSome source.before (λ bytes. file_of bytes ≡ Ok file) → IsUntouched err
     → IfOk r (λ done. Appends out.before out.after (replies_of file)) → IfOk r (λ done. BooksFit file 2 done.books) → IfOk r (λ done. RepliesFit file done.books done.replies)
     → IfErr r (λ status. (status ≡ WriteFailed) ⊎ (status ≡ OutOfMemory))
     → (r ≡ Err WriteFailed → IsFaulty out) → (r ≡ Err WriteFailed → WroteFront out.before out.after (replies_of file))
@@ -74,7 +75,7 @@ explains-answer source out err (Err OutOfMemory) file end is stays written fit n
   err_stays = stays;
 }
 
-pub explains-tell : (source out err : Change) (status : Status) (fault : TextFault) (line : List ℕ) → line ≡ fault_text fault → IfSome source.before (λ bytes. jobs_of bytes ≡ Err fault)
+pub explains-tell : (source out err : Change) (status : Status) (fault : TextFault) (line : List ℕ) → line ≡ fault_text fault → IfSome source.before (λ bytes. file_of bytes ≡ Err fault)
     → IfSome source.before (λ bytes. Consumes source.before source.after (take (most_bytes + 1) bytes)) → IsUntouched out
     → ((status ≡ Refused) × Appends err.before err.after line) ⊎ ((status ≡ WriteFailed) × IsFaulty err × WroteFront err.before err.after line)
     → Explains source out err (Err status)

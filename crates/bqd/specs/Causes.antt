@@ -6,7 +6,8 @@ use Rattle.std.specs.declared.string.String.{String}
 use Rattle.bq_model.specs.declared.group.Group.{Group}
 use Rattle.bq_model.specs.declared.fault.TextFault.{TextFault}
 use Rattle.job_text.specs.declared.file.Unit.{Unit as JobUnit}
-use Rattle.job_text.specs.Grammar.{jobs_of, most_bytes}
+use Rattle.text_lines.specs.Reading.{most_bytes}
+use Rattle.bqd.specs.Input.{file_of}
 use Rattle.job_text.specs.Replies.{replies_of}
 use Rattle.bulk_dispatcher.specs.declared.reply.Reply.{Reply}
 use Rattle.bulk_dispatcher.specs.Books.{BooksFit}
@@ -35,7 +36,7 @@ ReadsInput call = IsSome (command_in call.words)
 -- operation that got its job.
 pub record AreRun (out : Change) (replies : List Reply) (books : List (List Group)) (bytes : List ℕ) : Type 0 where
   pub file : List JobUnit
-  pub is_read : jobs_of bytes ≡ Ok file
+  pub is_read : file_of bytes ≡ Ok file
   pub written : Appends out.before out.after (replies_of file)
   pub books_fit : BooksFit file 2 books
   pub replies_fit : RepliesFit file books replies
@@ -57,7 +58,7 @@ pub record IsUsage (call : Call) : Type 0 where
 -- these bytes are no job file, and the line of their fault was written
 pub record AreRefused (err : Change) (bytes : List ℕ) : Type 0 where
   pub fault : TextFault
-  pub is_fault : jobs_of bytes ≡ Err fault
+  pub is_fault : file_of bytes ≡ Err fault
   pub told : Appends err.before err.after (fault_text fault)
 
 -- 3: the grammar of the command refuses the input, which was read to its end or one byte further than a text may go
@@ -77,7 +78,7 @@ pub record IsReadFailure (call : Call) : Type 0 where
 -- A write of what is due for these bytes failed: of the replies to a job file, or of the line of a fault.
 abbrev pub FailsToTell : Change → Change → List ℕ → Type 0
 FailsToTell out err bytes =
-    MatchResult (jobs_of bytes) (λ file. FailsAt out err (replies_of file)) (λ fault. FailsAt err out (fault_text fault))
+    MatchResult (file_of bytes) (λ file. FailsAt out err (replies_of file)) (λ fault. FailsAt err out (fault_text fault))
 
 -- 5: a write of what is due failed, where the words are no command or where they are one
 pub record IsWriteFailure (call : Call) : Type 0 where

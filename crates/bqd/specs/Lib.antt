@@ -4,6 +4,7 @@ pub mod Usage
 pub mod Line
 pub mod Output
 pub mod Streams
+pub mod Input
 pub mod Causes
 pub mod Status
 pub mod Runs

@@ -1,7 +1,7 @@
 -- What a run of a job file answers, over what it did to its streams.
 use Rattle.std.specs.Prelude.{◌+◌, Result, Ok, Err, IfSome, take, ◌⊎◌}
 use Rattle.std.specs.Io.KnownBytes.{Consumes, IsAtEnd}
-use Rattle.job_text.specs.Grammar.{most_bytes}
+use Rattle.text_lines.specs.Reading.{most_bytes}
 use Rattle.bulk_dispatcher.specs.declared.done.Done.{Done}
 use Rattle.bqd.specs.declared.status.Status.{Status}
 use Rattle.bqd.specs.declared.status.Status.TheVariants.{Done as StatusDone, Usage, Refused, ReadFailed, WriteFailed, OutOfMemory}

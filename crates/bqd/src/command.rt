@@ -1,7 +1,9 @@
 // What the words of the command line ask for.
 ghost use Rattle.std.specs.Prelude.{◌≡◌, map};
 ghost use Rattle.std.specs.String.{string_bytes};
-ghost use Rattle.bqd.specs.Command.{command_in};
+ghost use Rattle.bqd.specs.Command.{command_in, is_one};
+
+use text_lines::number_within;
 
 /// What the program is asked to do.
 #[derive(Clone, Copy, Debug, PartialEq, Eq)]
@@ -15,15 +17,22 @@ pub enum Command {
     },
 }
 
-/// The command that these words are, the words after the program's name. They are compared letter by letter.
+/// The command that these words are, the words after the program's name. A name is compared letter by
+/// letter, and a number may have leading zeros.
 pub fn command_of(words: &[String]) -> Option<Command>
     ensures { result ≡ command_in (map (λ w. string_bytes w) words.now) }
 {
     match words {
-        [name, hands, batch]
-            if name.as_str() == "run" && hands.as_str() == "1" && batch.as_str() == "1" => {
+        [name, hands, batch] if name.as_str() == "run" && is_one(hands) && is_one(batch) => {
             Some(Command::Run { hands: 1, batch: 1 })
         }
         _ => None,
     }
+}
+
+// Whether a word is a number of value 1.
+fn is_one(word: &String) -> bool
+    ensures { result ≡ is_one (string_bytes word.now) }
+{
+    number_within(word.as_bytes(), 1, 1).is_some()
 }

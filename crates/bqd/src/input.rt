@@ -2,7 +2,7 @@
 ghost use Rattle.std.specs.Prelude.{◌≡◌, ◌+◌, ◌<◌, ◌≤◌, [], length, vec_len, is_some, IfOk, OnErr, IsErrOf};
 ghost use Rattle.std.specs.Io.KnownBytes.{Consumes, IsAtEnd};
 ghost use Rattle.bq_model.specs.Device.{Rose};
-ghost use Rattle.job_text.specs.Grammar.{most_bytes};
+ghost use Rattle.text_lines.specs.Reading.{most_bytes};
 
 use bq_model::{Failed, Source};
 use std::alloc::{AllocError, Global};

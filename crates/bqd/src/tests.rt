@@ -99,7 +99,8 @@ fn only_run_1_1_is_a_command(rt: HostRuntime) -> Result<(), Fail> {
     assert_eq!(rt; command_of(&words(rt.alloc(), &["run", "1", "1"])?), run);
     assert_eq!(rt; command_of(&words(rt.alloc(), &none)?), None);
     assert_eq!(rt; command_of(&words(rt.alloc(), &["run", "1"])?), None);
-    assert_eq!(rt; command_of(&words(rt.alloc(), &["run", "01", "1"])?), None);
+    assert_eq!(rt; command_of(&words(rt.alloc(), &["run", "01", "1"])?), run);
+    assert_eq!(rt; command_of(&words(rt.alloc(), &["run", "1", "+1"])?), None);
     assert_eq!(rt; command_of(&words(rt.alloc(), &["run", "1", "2"])?), None);
     assert_eq!(rt; command_of(&words(rt.alloc(), &["Run", "1", "1"])?), None);
     assert_eq!(rt;

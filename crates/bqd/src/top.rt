@@ -1,11 +1,12 @@
 // The program over any source and sinks.
-ghost use Rattle.std.specs.Prelude.{◌≡◌, ◌≢◌, ℕ, ◌⊎◌, [], Ok, IfOk, IfErr, IfSome, IsErrOf, map, is_some};
+ghost use Rattle.std.specs.Prelude.{◌≡◌, ◌≢◌, true, ℕ, ◌⊎◌, [], Ok, IfOk, IfErr, IfSome, IsErrOf, map, is_some};
 ghost use Rattle.std.specs.String.{string_bytes};
 ghost use Rattle.std.specs.Io.KnownBytes.{Appends};
 ghost use Rattle.bq_model.specs.Device.{Rose};
 ghost use Rattle.job_text.specs.Replies.{replies_of};
 ghost use Rattle.bulk_dispatcher.specs.Books.{BooksFit};
 ghost use Rattle.bulk_dispatcher.specs.Replies.{RepliesFit};
+ghost use Rattle.bulk_dispatcher.specs.Served.{is_served};
 ghost use Rattle.bqd.specs.Command.{command_in};
 ghost use Rattle.bqd.specs.Usage.{usage_text};
 ghost use Rattle.bqd.specs.Line.{fault_text};
@@ -37,6 +38,7 @@ fn answer_file<O: Sink, G: Gate, R: Threads + Sync>(
     out: &mut O,
     gate: &G,
 ) -> Result<Done, Status>
+    requires { is_served file.now ≡ true }
     ensures done { IfOk result (λ done. Appends (O.written out.old) (O.written out.new) (replies_of file.now)) }
     ensures books_fit { IfOk result (λ done. BooksFit file.now 2 done.books) }
     ensures replies_fit { IfOk result (λ done. RepliesFit file.now done.books done.replies) }

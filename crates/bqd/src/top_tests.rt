@@ -156,19 +156,80 @@ fn each_job_passes_the_gate_once(rt: HostRuntime) -> Result<(), Fail> {
 }
 
 #[test]
-fn files_and_texts_are_told_apart(rt: HostRuntime) -> Result<(), Fail> {
-    let long_number = b"bqjobs 1\njob 0 sum 18446744073709551616\n";
+fn every_kind_of_job_is_answered(rt: HostRuntime) -> Result<(), Fail> {
+    let digests = b"bqjobs 1\njob 0 digest 616263\njob 0 digest -\n";
     let cases = [
         quiet_case(RUN, b"bqjobs 1\n", 0, b"", b""),
-        quiet_case(RUN, b"", 3, b"", OTHER_FORM),
-        quiet_case(RUN, b"bqjobs 1", 3, b"", OTHER_FORM),
-        quiet_case(RUN, b"bqjobs 1\njob 1 sum 2\n", 3, b"", OTHER_FORM),
-        quiet_case(RUN, b"bqjobs 1\njob 0 sum  2\n", 3, b"", OTHER_FORM),
-        quiet_case(RUN, long_number, 3, b"", OTHER_FORM),
+        quiet_case(&["run", "01", "1"], TWO_LINES, 0, b"0 5\n", b""),
+        quiet_case(
+            RUN,
+            digests,
+            0,
+            b"0 ba7816bf8f01cfea414140de5dae2223b00361a396177a9cb410ff61f20015ad\n\
+              1 e3b0c44298fc1c149afbf4c8996fb92427ae41e4649b934ca495991b7852b855\n",
+            b"",
+        ),
+        quiet_case(
+            RUN,
+            b" bqjobs 1\n# single jobs\n\njob 0 count 61 6162616361\njob 00 mix 0 2\n\
+              job 0 words b a b\nblock 0\nend\nblock 0\n  put  sum 7 \nend",
+            0,
+            b"0 3\n1 1876011003808476466\n2 a=1 b=2\n3 7\n",
+            b"",
+        ),
     ];
     for case in &cases {
         made(&rt, rt.alloc(), case)?;
     }
+    Ok(())
+}
+
+#[test]
+fn faults_are_told_by_line_and_cause(rt: HostRuntime) -> Result<(), Fail> {
+    let table: [(&[u8], &[u8]); 10] = [
+        (b"", b"bqd: line 1: no header\n"),
+        (b"bqjobs 1\njob 16 sum\n", b"bqd: line 2: bad lane\n"),
+        (b"bqjobs 1\njob 0 sum\r\n", b"bqd: line 2: not text\n"),
+        (
+            b"bqjobs 1\nblock 0\nput sum 1\n",
+            b"bqd: line 2: open block\n",
+        ),
+        (
+            b"bqjobs 1\njob 0 mix 0 1000001\n",
+            b"bqd: line 2: bad number\n",
+        ),
+        (b"bqjobs 1\njob 0 sum 1\nwork\n", b"bqd: line 3: bad word\n"),
+        (b"bqjobs 1\njob 1 sum 2\n", OTHER_FORM),
+        (b"bqjobs 1\nblock 0\nput sum\nput sum\nend\n", OTHER_FORM),
+        (b"bqjobs 1\njob 0 sum\nblock 15\nput sum\nend\n", OTHER_FORM),
+        (
+            b"bqjobs 1\njob 1 sum 2\njob 0 sum x\n",
+            b"bqd: line 3: bad number\n",
+        ),
+    ];
+    for (input, line) in table {
+        made(&rt, rt.alloc(), &quiet_case(RUN, input, 3, b"", line))?;
+    }
+    Ok(())
+}
+
+/// A block of so many puts.
+fn puts(alloc: Global, count: u32) -> Result<Vec<u8>, AllocError> {
+    let mut input = Vec::from_slice(alloc, b"bqjobs 1\nblock 0\n")?;
+    for _ in 0..count {
+        input.extend_from_slice(b"put sum\n")?;
+    }
+    input.extend_from_slice(b"end\n")?;
+    Ok(input)
+}
+
+#[test]
+fn a_block_has_at_most_100_jobs(rt: HostRuntime) -> Result<(), Fail> {
+    let most = puts(rt.alloc(), 100)?;
+    made(&rt, rt.alloc(), &quiet_case(RUN, &most, 3, b"", OTHER_FORM))?;
+    let more = puts(rt.alloc(), 101)?;
+    let line = b"bqd: line 103: block too long\n";
+    made(&rt, rt.alloc(), &quiet_case(RUN, &more, 3, b"", line))?;
     Ok(())
 }
 
@@ -180,7 +241,7 @@ fn other_words_get_the_usage_line(rt: HostRuntime) -> Result<(), Fail> {
         &["run", "17", "1"],
         &["run", "1", "257"],
         &["run", "1"],
-        &["run", "01", "1"],
+        &["run", "1", "x"],
     ];
     for words in table {
         made(
@@ -266,7 +327,7 @@ fn a_text_that_is_too_long_is_refused(rt: HostRuntime) -> Result<(), Fail> {
     let input = long_text(rt.alloc(), 16_777_217)?;
     let whole = Case {
         read_piece: 1 << 20,
-        ..quiet_case(RUN, &input, 3, b"", OTHER_FORM)
+        ..quiet_case(RUN, &input, 3, b"", b"bqd: line 0: too long\n")
     };
     made(&rt, rt.alloc(), &whole)?;
     Ok(())

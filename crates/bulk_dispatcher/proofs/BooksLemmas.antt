@@ -1,6 +1,7 @@
 -- The book of a file whose units are single jobs on lane 0.
-use Rattle.std.proofs.Common.{◌≡◌, ◌≢◌, ℕ, zero, suc, ◌+◌, ◌<◌, ◌≤◌, ◌==◌, Bool, true, false, cond, List, [], ◌∷◌, length, map, filter, refl, sym, ap, subst, ◌∙◌, arith, All, ◌||◌, ne_eqb, eq-eqb}
+use Rattle.std.proofs.Common.{◌≡◌, ◌≢◌, ℕ, zero, suc, ◌+◌, ◌<◌, ◌≤◌, ◌==◌, Bool, true, false, cond, List, [], ◌∷◌, length, map, filter, refl, sym, ap, subst, ◌∙◌, arith, All, ◌||◌, ◌&&◌, ne_eqb, eq-eqb, inl, inr}
 use Rattle.std.specs.List.{flat_map, range_with_len, list_any, AllZip, AllByRecursion}
+use Rattle.std.proofs.lemmas.Bool.Decides.{eqb_tells}
 use Rattle.std.proofs.lemmas.List.Elements.{All-from_recursion, recursion_from_All}
 use Rattle.std.proofs.lemmas.List.Sorted.{IsPermutation-refl}
 use Rattle.std.proofs.lemmas.List.Sums.{sum_by-cons}
@@ -9,8 +10,9 @@ use Rattle.bq_model.specs.declared.group.Group.{Group}
 use Rattle.bq_model.specs.History.{operations, last_queue}
 use Rattle.bq_model.specs.Proper.{IsProper}
 use Rattle.job_text.specs.declared.file.Unit.{Unit as JobUnit}
-use Rattle.job_text.specs.JobFile.{IsJobFile, job_count}
+use Rattle.job_text.specs.JobFile.{job_count}
 use Rattle.bulk_dispatcher.specs.Books.{Numbered, numbered_from, units_on, jobs_on, lanes_of, values_enqueued, StandTogether, BooksFit}
+use Rattle.bulk_dispatcher.specs.Served.{is_single, is_served}
 use Rattle.bulk_dispatcher.specs.Turns.{turns}
 use Rattle.bulk_dispatcher.proofs.TurnsLemmas.{last_queue-turns, values_enqueued-turns, StandTogether-turns}
 
@@ -18,12 +20,19 @@ use Rattle.bulk_dispatcher.proofs.TurnsLemmas.{last_queue-turns, values_enqueued
 abbrev pub IsSingle : JobUnit → Type 0
 IsSingle unit = (unit.lane ≡ 0) × (length unit.jobs ≡ 1)
 
-both : (file : List JobUnit) → AllByRecursion (λ (unit : JobUnit). unit.lane ≡ 0) file → AllByRecursion (λ (unit : JobUnit). length unit.jobs ≡ 1) file → AllByRecursion IsSingle file
-both [] a b = tt
-both (unit ∷ units) a b = ((a.0, b.0), both units a.1 b.1)
+both_true : (a b : Bool) → (a && b) ≡ true → (a ≡ true) × (b ≡ true)
+both_true true b e = (refl, e)
+both_true false b e = cc e
 
-pub singles : (file : List JobUnit) → IsJobFile file → AllByRecursion IsSingle file
-singles file h = both file (recursion_from_All _ file h.lanes) (recursion_from_All _ file h.sizes)
+equal : (a b : ℕ) → (a == b) ≡ true → a ≡ b
+equal a b e = elim (eqb_tells a b) [ inl same ↦ same.1 | inr other ↦ cc (sym e ∙ other.0) ]
+
+pub singles : (file : List JobUnit) → is_served file ≡ true → AllByRecursion IsSingle file
+singles [] h = tt
+singles (unit ∷ units) h =
+    let here = both_true (is_single unit) (is_served units) h in
+    let single = both_true (unit.lane == 0) (length unit.jobs == 1) here.0 in
+    ((equal unit.lane 0 single.0, equal (length unit.jobs) 1 single.1), singles units here.1)
 
 -- the numbers of single jobs, from n on
 abbrev pub alone : ℕ → Numbered
@@ -98,7 +107,7 @@ below a zero m l = tt
 below a (suc n) m l = (omega arith, below (a + 1) n m (omega arith))
 
 -- the books of a file with a job
-pub BooksFit-turns : (file : List JobUnit) → IsJobFile file → 0 < job_count file → IsProper 2 (turns (job_count file)) → BooksFit file 2 (turns (job_count file) ∷ [])
+pub BooksFit-turns : (file : List JobUnit) → is_served file ≡ true → 0 < job_count file → IsProper 2 (turns (job_count file)) → BooksFit file 2 (turns (job_count file) ∷ [])
 BooksFit-turns file h some proper =
     let hs = singles file h in
     let n = job_count file in

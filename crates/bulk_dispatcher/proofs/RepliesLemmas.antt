@@ -1,5 +1,5 @@
 -- The replies to a file whose units are single jobs on lane 0.
-use Rattle.std.proofs.Common.{◌≡◌, ℕ, zero, suc, ◌+◌, ◌<◌, ◌≤◌, List, [], ◌∷◌, ◌++◌, Some, None, length, map, get_or, refl, sym, ap, subst, ◌∙◌, arith, Contains, append_assoc, length-append, add-one, drop}
+use Rattle.std.proofs.Common.{◌≡◌, true, ℕ, zero, suc, ◌+◌, ◌<◌, ◌≤◌, List, [], ◌∷◌, ◌++◌, Some, None, length, map, get_or, refl, sym, ap, subst, ◌∙◌, arith, Contains, append_assoc, length-append, add-one, drop}
 use Rattle.std.specs.List.{flat_map, range_with_len, slice_get, zip, AllByRecursion, AllPairs}
 use Rattle.std.proofs.lemmas.List.{map-append, length-map, append-nil, drop_all}
 use Rattle.std.proofs.lemmas.List.Elements.{All-from_recursion}
@@ -8,7 +8,7 @@ use Rattle.bq_model.specs.declared.group.Group.{Group}
 use Rattle.job_work.specs.declared.job.Job.{Job}
 use Rattle.job_work.specs.Answer.{answer_of}
 use Rattle.job_text.specs.declared.file.Unit.{Unit as JobUnit}
-use Rattle.job_text.specs.JobFile.{IsJobFile, job_count, job_at, lane_jobs}
+use Rattle.job_text.specs.JobFile.{job_count, job_at, lane_jobs}
 use Rattle.job_work.specs.declared.job.Job.TheVariants.{Sum}
 use Rattle.std.proofs.lemmas.Option.{slice_get-get_or}
 use Rattle.job_text.proofs.JobFileLemmas.{length-lane_jobs}
@@ -17,6 +17,7 @@ use Rattle.bulk_dispatcher.specs.declared.reply.Reply.{Reply}
 use Rattle.bq_model.specs.Proper.{IsProper}
 use Rattle.bulk_dispatcher.specs.Books.{lanes_of, BooksFit}
 use Rattle.bulk_dispatcher.specs.Replies.{IsAnswer, NamesItsDequeue, NameTheSame, RepliesFit}
+use Rattle.bulk_dispatcher.specs.Served.{is_served}
 use Rattle.bulk_dispatcher.specs.Turns.{turns, turn_reply, turn_replies, jobs_in, IsTurnReply}
 use Rattle.bulk_dispatcher.proofs.TurnsLemmas.{GotAnswer-turns, slice_get_at}
 use Rattle.bulk_dispatcher.proofs.BooksLemmas.{IsSingle, singles, lanes_of-singles, job_count-singles, BooksFit-turns}
@@ -86,7 +87,7 @@ apart jobs i j d less within = λ same.
     omega arith
 
 -- the replies that are made in turns are those of the file, where the one lane left the history of these turns
-pub RepliesFit-turns : (file : List JobUnit) → IsJobFile file → 0 < job_count file → RepliesFit file (turns (job_count file) ∷ []) (turn_replies 0 (jobs_in file))
+pub RepliesFit-turns : (file : List JobUnit) → is_served file ≡ true → 0 < job_count file → RepliesFit file (turns (job_count file) ∷ []) (turn_replies 0 (jobs_in file))
 RepliesFit-turns file h some =
     let hs = singles file h in
     let n = job_count file in
@@ -123,7 +124,7 @@ turn_replies-end file n replies all l e =
     sym (append-nil replies) ∙ ap (λ (js : List Job). replies ++ turn_replies n js) (sym (drop_all n (jobs_in file) (let len = length-jobs_in file in omega arith))) ∙ e
 
 -- a file with no job has no unit
-pub no_units : (file : List JobUnit) → IsJobFile file → job_count file ≡ 0 → file ≡ []
+pub no_units : (file : List JobUnit) → is_served file ≡ true → job_count file ≡ 0 → file ≡ []
 no_units [] h none = refl
 no_units (unit ∷ units) h none = absurd (let e = job_count-singles (unit ∷ units) (singles (unit ∷ units) h) in omega arith)
 
@@ -138,7 +139,7 @@ IsProper-more h p = record {
 }
 
 -- what a run leaves of a file with a job: the one book, and the replies
-pub BooksFit-run : (file : List JobUnit) (callers : ℕ) (book : List Group) (books : List (List Group)) → IsJobFile file → 0 < job_count file → callers ≡ 2
+pub BooksFit-run : (file : List JobUnit) (callers : ℕ) (book : List Group) (books : List (List Group)) → is_served file ≡ true → 0 < job_count file → callers ≡ 2
     → book ≡ turns (job_count file) → IsProper 1 book → books ≡ book ∷ [] → BooksFit file callers books
 BooksFit-run file callers book books h some two history proper e =
     let as_turns : book ∷ [] ≡ books = sym e in
@@ -146,7 +147,7 @@ BooksFit-run file callers book books h some two history proper e =
     subst (λ (k : ℕ). BooksFit file k books) (sym two)
     (subst (BooksFit file 2) as_turns (subst (λ (b : List Group). BooksFit file 2 (b ∷ [])) (sym history) (BooksFit-turns file h some two_callers)))
 
-pub RepliesFit-run : (file : List JobUnit) (book : List Group) (books : List (List Group)) (replies : List Reply) → IsJobFile file → 0 < job_count file
+pub RepliesFit-run : (file : List JobUnit) (book : List Group) (books : List (List Group)) (replies : List Reply) → is_served file ≡ true → 0 < job_count file
     → book ≡ turns (job_count file) → books ≡ book ∷ [] → replies ≡ turn_replies 0 (jobs_in file) → RepliesFit file books replies
 RepliesFit-run file book books replies h some history e made =
     subst (RepliesFit file books) (sym made)
@@ -157,12 +158,12 @@ lines-run file replies made =
     ap (flat_map (λ (reply : Reply). reply_line reply.job reply.text)) made ∙ lines-turn_replies 0 (jobs_in file)
 
 -- the same of a file with none
-pub BooksFit-idle : (file : List JobUnit) (callers : ℕ) (books : List (List Group)) → IsJobFile file → job_count file ≡ 0 → callers ≡ 2 → books ≡ [] → BooksFit file callers books
+pub BooksFit-idle : (file : List JobUnit) (callers : ℕ) (books : List (List Group)) → is_served file ≡ true → job_count file ≡ 0 → callers ≡ 2 → books ≡ [] → BooksFit file callers books
 BooksFit-idle file callers books h none two e =
     subst (λ (k : ℕ). BooksFit file k books) (sym two)
     (subst (λ (f : List JobUnit). BooksFit f 2 books) (sym (no_units file h none)) (subst (BooksFit [] 2) (sym e) BooksFit-none))
 
-pub lines-idle : (file : List JobUnit) (replies : List Reply) → IsJobFile file → job_count file ≡ 0 → replies ≡ [] → flat_map (λ (reply : Reply). reply_line reply.job reply.text) replies ≡ replies_of file
+pub lines-idle : (file : List JobUnit) (replies : List Reply) → is_served file ≡ true → job_count file ≡ 0 → replies ≡ [] → flat_map (λ (reply : Reply). reply_line reply.job reply.text) replies ≡ replies_of file
 lines-idle file replies h none e =
     ap (flat_map (λ (reply : Reply). reply_line reply.job reply.text)) e ∙ ap replies_of (sym (no_units file h none))
 
@@ -172,14 +173,14 @@ slice_get-map f (x ∷ xs) zero y e = (x, refl, cc e)
 slice_get-map f (x ∷ xs) (suc n) y e = slice_get-map f xs n y e
 
 -- the job of a number, in a file of single jobs on lane 0
-job_at-singles : (file : List JobUnit) (n lane : ℕ) (job : Job) → IsJobFile file → job_at file n ≡ Some (lane, job) → (lane ≡ 0) × (slice_get (jobs_in file) n ≡ Some job)
+job_at-singles : (file : List JobUnit) (n lane : ℕ) (job : Job) → is_served file ≡ true → job_at file n ≡ Some (lane, job) → (lane ≡ 0) × (slice_get (jobs_in file) n ≡ Some job)
 job_at-singles file n lane job h found =
     let f : Job → ℕ × Job = λ j. (0, j) in
     let got = slice_get-map f (jobs_in file) n (lane, job) (ap (λ (js : List (ℕ × Job)). slice_get js n) (sym (lane_jobs-singles file (singles file h))) ∙ found) in
     (ap (λ (p : ℕ × Job). p.0) (sym got.2), got.1 ∙ ap (λ (p : ℕ × Job). Some p.1) got.2)
 
 -- the reply with the answer of that job is that of its turn
-pub IsTurnReply-made : (file : List JobUnit) (n lane serial : ℕ) (job : Job) (text : List ℕ) (reply : Reply) → IsJobFile file → job_at file n ≡ Some (lane, job) → text ≡ answer_of job → serial ≡ n + n + 1
+pub IsTurnReply-made : (file : List JobUnit) (n lane serial : ℕ) (job : Job) (text : List ℕ) (reply : Reply) → is_served file ≡ true → job_at file n ≡ Some (lane, job) → text ≡ answer_of job → serial ≡ n + n + 1
     → reply ≡ record { job = n; lane = lane; caller = 0; serial = serial; text = text } → IsTurnReply (jobs_in file) n reply
 IsTurnReply-made file n lane serial job text reply h found is at e =
     let here = job_at-singles file n lane job h found in

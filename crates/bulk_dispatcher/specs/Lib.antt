@@ -1,4 +1,5 @@
 -- What the books and the replies of a file show.
 pub mod Books
 pub mod Replies
+pub mod Served
 pub mod Turns

@@ -1,14 +1,15 @@
 // The run of a file's jobs by one hand over one lane. Each job has a turn of its own: its number is put on the
 // lane and taken from it, so that the lane is empty between two turns.
-ghost use Rattle.std.specs.Prelude.{◌≡◌, ℕ, ◌+◌, ◌*◌, ◌<◌, ◌≤◌, [], ◌∷◌, Some, slice_get, length, IfOk, OnOk};
+ghost use Rattle.std.specs.Prelude.{◌≡◌, true, ℕ, ◌+◌, ◌*◌, ◌<◌, ◌≤◌, [], ◌∷◌, Some, slice_get, length, IfOk, OnOk};
 ghost use Rattle.std.specs.List.{flat_map};
 ghost use Rattle.bq_model.specs.History.{operations, last_queue};
 ghost use Rattle.bq_model.specs.Queue.{answer_at_queue};
 ghost use Rattle.bq_model.specs.PlainLane.{after_group, PassesRoom, PassesAllowance};
-ghost use Rattle.job_text.specs.JobFile.{job_count, IsJobFile};
+ghost use Rattle.job_text.specs.JobFile.{job_count};
 ghost use Rattle.job_text.specs.Replies.{reply_line, replies_of};
 ghost use Rattle.bulk_dispatcher.specs.Books.{BooksFit};
 ghost use Rattle.bulk_dispatcher.specs.Replies.{RepliesFit};
+ghost use Rattle.bulk_dispatcher.specs.Served.{is_served};
 ghost use Rattle.bulk_dispatcher.specs.Turns.{after_turn, turns, turn_replies, IsTurnReply, jobs_in};
 
 use crate::done::Done;
@@ -34,6 +35,7 @@ pub fn run_hands<G: Gate, R: Threads + Sync>(
     batch: u32,
     gate: &G,
 ) -> Result<Done, OutOfMemory>
+    requires served { is_served jobs.now ≡ true }
     requires one_hand { hands ≡ 1 }
     requires one_operation { batch ≡ 1 }
     ensures books_fit { IfOk result (λ done. BooksFit jobs.now (hands + 1) done.books) }
@@ -71,6 +73,7 @@ fn take_turns<G: Gate>(
     lane: &mut PlainLane,
     gate: &G,
 ) -> Result<Items<Reply>, OutOfMemory>
+    requires served { is_served jobs.now ≡ true }
     requires fresh { lane.old.history ≡ [] }
     requires room { 1 ≤ lane.old.room }
     requires allowance { job_count jobs.now + job_count jobs.now ≤ lane.old.allowance }
@@ -133,7 +136,7 @@ fn run_job<G: Gate>(
     number: u32,
     gate: &G,
 ) -> Result<Reply, OutOfMemory>
-    requires file { IsJobFile jobs.now }
+    requires served { is_served jobs.now ≡ true }
     requires number { number < job_count jobs.now }
     ensures { IfOk result (IsTurnReply (jobs_in jobs.now) number) }
 {

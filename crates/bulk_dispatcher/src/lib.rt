@@ -9,8 +9,10 @@ mod done;
 mod gate;
 mod hands;
 mod reply;
+mod served;
 
 pub use done::Done;
 pub use gate::{Gate, NoGate};
 pub use hands::run_hands;
 pub use reply::Reply;
+pub use served::is_served;

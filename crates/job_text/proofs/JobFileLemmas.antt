@@ -1,9 +1,8 @@
 -- The jobs of units, by their numbers.
-use Rattle.std.proofs.Common.{◌≡◌, ℕ, ◌+◌, ◌-◌, ◌<◌, ◌≤◌, List, [], ◌∷◌, length, get_or, take, map, Some, None, refl, sym, ap, ap₂, ◌∙◌, subst, arith, All, slice_index, length-append, ⊎_elim}
+use Rattle.std.proofs.Common.{◌≡◌, ℕ, ◌+◌, ◌-◌, ◌<◌, ◌≤◌, List, [], ◌∷◌, length, get_or, take, map, Some, None, refl, sym, ap, ap₂, ◌∙◌, subst, arith, slice_index, length-append, ⊎_elim}
 use Rattle.std.proofs.lemmas.List.{length-map, take_all, take-take, get_or-map}
 use Rattle.std.proofs.lemmas.List.Concat.{get_or-flat_map}
-use Rattle.std.proofs.lemmas.List.Elements.{All-weaker}
-use Rattle.std.proofs.lemmas.List.Sums.{sum_by-cons, sum_by_more, sum_by-take-le, sum_by-le}
+use Rattle.std.proofs.lemmas.List.Sums.{sum_by-cons, sum_by_more, sum_by-take-le}
 use Rattle.std.proofs.lemmas.Option.{slice_get-get_or, slice_get_past}
 use Rattle.std.proofs.lemmas.Bool.{cases_lt}
 use Rattle.job_work.specs.declared.job.Job.{Job}
@@ -29,11 +28,6 @@ job_count-more units i unit within unit_is =
 
 pub job_count-take-le : (units : List Unit) (i : ℕ) → job_count (take i units) ≤ job_count units
 job_count-take-le units i = sum_by-take-le (λ (u : Unit). length u.jobs) units i
-
--- units of one job each are as many as their jobs
-pub job_count-le : (units : List Unit) → All (λ unit. length unit.jobs ≡ 1) units → job_count units ≤ length units
-job_count-le units sizes =
-    omega (arith, sum_by-le (λ (u : Unit). length u.jobs) 1 units (All-weaker (λ (u : Unit). length u.jobs ≡ 1) (λ (u : Unit). length u.jobs ≤ 1) (λ u is. omega arith) units sizes))
 
 -- the numbers of the first jobs rise
 pub starts_rise : (units : List Unit) (starts : List ℕ) → IsStarts units starts → (i j : ℕ) → i ≤ j → j < length starts → slice_index starts i ≤ slice_index starts j

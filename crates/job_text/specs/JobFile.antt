@@ -1,11 +1,24 @@
 -- The jobs of a file's units.
-use Rattle.std.specs.Prelude.{◌≡◌, ℕ, ◌≤◌, ◌<◌, List, length, take, map, Option, slice_get, slice_index, All, sum_by, flat_map}
+use Rattle.std.specs.Prelude.{◌≡◌, ℕ, ◌≤◌, ◌<◌, List, length, take, map, Option, slice_get, slice_index, All, sum_by, flat_map, ⊤}
 use Rattle.job_work.specs.declared.job.Job.{Job}
+use Rattle.job_work.specs.declared.job.Job.TheVariants.{Sum, Digest, Count, Mix, Words}
 use Rattle.job_text.specs.declared.file.Unit.{Unit}
 
 -- the most jobs of a file
 abbrev pub most_jobs : ℕ
 most_jobs = 1000000
+
+-- the most jobs of a unit
+abbrev pub most_in_unit : ℕ
+most_in_unit = 100
+
+-- the highest number of a lane
+abbrev pub most_lane : ℕ
+most_lane = 15
+
+-- the most turns of a mix
+abbrev pub most_turns : ℕ
+most_turns = 1000000
 
 -- how many jobs the units have
 abbrev pub job_count : List Unit → ℕ
@@ -23,10 +36,24 @@ lane_jobs units = flat_map (λ unit. map (λ job. (unit.lane, job)) unit.jobs) u
 abbrev pub job_at : List Unit → ℕ → Option (ℕ × Job)
 job_at units number = slice_get (lane_jobs units) number
 
--- the units that a file may have: each is one job on lane 0, and there are not too many
+-- whether a job is in the ranges of the format
+abbrev pub IsInRange : Job → Type 0
+IsInRange (Sum numbers) = ⊤
+IsInRange (Digest bytes) = ⊤
+IsInRange (Count byte bytes) = ⊤
+IsInRange (Mix start turns) = turns ≤ most_turns
+IsInRange (Words words) = ⊤
+
+-- a unit that a file may have
+pub record IsUnit (unit : Unit) : Type 0 where
+  pub lane : unit.lane ≤ most_lane
+  pub some : 1 ≤ length unit.jobs
+  pub few : length unit.jobs ≤ most_in_unit
+  pub ranges : All IsInRange unit.jobs
+
+-- the units that a file may have
 pub record IsJobFile (units : List Unit) : Type 0 where
-  pub lanes : All (λ unit. unit.lane ≡ 0) units
-  pub sizes : All (λ unit. length unit.jobs ≡ 1) units
+  pub units_are : All IsUnit units
   pub count : job_count units ≤ most_jobs
 
 -- the number of the first job of each unit

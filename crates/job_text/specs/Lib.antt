@@ -1,8 +1,9 @@
 -- The text of a job file, and the replies to its jobs.
-pub mod Pieces
-pub mod Number
 pub mod Each
 pub mod JobFile
+pub mod JobWords
 pub mod Grammar
+pub mod Counted
+pub mod InProgress
 pub mod Reads
 pub mod Replies

@@ -8,4 +8,4 @@ unreachable-requires g c = job_at-within c.args.jobs.now c.args.number c.require
 pub returns : goal.returns
 returns g c =
     let serial : 2 * c.from.result + 1 ≡ c.args.number + c.args.number + 1 = omega (arith, c.from.ensures) in
-    IsTurnReply-made c.args.jobs.now c.args.number _ _ c.in-Some.job.now _ _ c.requires.file (sym c.in-Some.ensures.job) c.in_ok-text-in-Some.ensures serial c.new.ensures
+    IsTurnReply-made c.args.jobs.now c.args.number _ _ c.in-Some.job.now _ _ c.requires.served (sym c.in-Some.ensures.job) c.in_ok-text-in-Some.ensures serial c.new.ensures

@@ -1,0 +1,24 @@
+// Laws of the grammar. Each is proved of all texts; the functions do nothing.
+ghost use Rattle.std.specs.Prelude.{◌≡◌, ◌≢◌, ◌+◌, ◌<◌, ◌≤◌, ◌↔◌, List, [], ℕ, length, take, codes, Ok, Err, Some};
+ghost use Rattle.bq_model.specs.declared.fault.TextCause.TheVariants.{TooLong, OpenBlock};
+ghost use Rattle.bq_model.specs.declared.fault.TextFault.{TextFault};
+ghost use Rattle.text_lines.specs.Lines.{lines_of};
+ghost use Rattle.text_lines.specs.Reading.{most_bytes, fault, text_line, IsFirstFault};
+ghost use Rattle.job_text.specs.declared.block.Block.{Block};
+ghost use Rattle.job_text.specs.Grammar.{LinesSay, jobs_of, progress_of, meaning, nothing_yet};
+
+/// A text that is too long has that fault and no other. Else the fault is that of the first line with a fault, and an
+/// open block comes only where no line has one.
+pub fn first_faulty_line_is_named()
+    ensures too_long { (text : List ℕ) → most_bytes < length text → jobs_of text ≡ Err (fault 0 TooLong) }
+    ensures first_line { (text : List ℕ) (found : TextFault) → length text ≤ most_bytes → text ≢ []
+        → (progress_of text ≡ Err found) ↔ IsFirstFault (text_line (codes "bqjobs") (codes "1") meaning) 1 nothing_yet (lines_of text) found }
+    ensures line_before_block { (text : List ℕ) (found : TextFault) → (progress_of text ≡ Err found) → jobs_of text ≡ Err found }
+    ensures open_block { (text : List ℕ) (so_far : LinesSay) (block : Block) → (progress_of text ≡ Ok so_far)
+        → so_far.block ≡ Some block → jobs_of text ≡ Err (fault block.line OpenBlock) }
+{}
+
+/// A text is read as its first 16,777,217 bytes are, so that no more of it need be looked at.
+pub fn longer_texts_are_alike()
+    ensures { (text : List ℕ) → jobs_of (take (most_bytes + 1) text) ≡ jobs_of text }
+{}

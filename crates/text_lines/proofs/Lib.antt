@@ -1,0 +1,6 @@
+-- Lemmas on the definitions of specs/, in files named for their topics.
+pub mod NumberLemmas
+pub mod LineLemmas
+pub mod WordLemmas
+pub mod HexLemmas
+pub mod ReadingLemmas

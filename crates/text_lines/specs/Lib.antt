@@ -1,0 +1,8 @@
+-- What all texts have in common: lines, words, numbers, hex words, and the order of faults.
+pub mod Lines
+pub mod Words
+pub mod Number
+pub mod Hex
+pub mod Cause
+pub mod Reading
+pub mod Refusals

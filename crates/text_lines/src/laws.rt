@@ -1,0 +1,28 @@
+// Laws above the definitions of `specs/`. Each is proved of all states and texts; the functions do nothing.
+ghost use Rattle.std.specs.Prelude.{◌≡◌, ◌≢◌, ℕ, ◌<◌, ◌≤◌, ◌++◌, ◌↔◌, List, [], Result, Err, length};
+ghost use Rattle.bq_model.specs.declared.fault.TextCause.{TextCause};
+ghost use Rattle.bq_model.specs.declared.fault.TextCause.TheVariants.{NoHeader, TooLong};
+ghost use Rattle.bq_model.specs.declared.fault.TextFault.{TextFault};
+ghost use Rattle.text_lines.specs.Cause.{both, causes, IsFirstCause};
+ghost use Rattle.text_lines.specs.Lines.{lines_of};
+ghost use Rattle.text_lines.specs.Reading.{read_lines, text_line, text_state, fault, most_bytes, IsFirstFault};
+
+/// Where parts of a line have faults, the line's fault is the one that comes first in the order.
+pub fn fault_of_a_line_comes_first_in_the_order<A, B>()
+    ensures { (one : Result A TextCause) (other : Result B TextCause) (cause : TextCause)
+        → (both one other ≡ Err cause) → IsFirstCause (causes one ++ causes other) cause }
+{}
+
+/// A text that is too long has that fault and no other. Else its fault is that of the first line with a fault, and an
+/// empty text has no header.
+pub fn fault_of_a_text_is_that_of_its_first_faulty_line<S>()
+    ensures lines { (take_line : ℕ → S → List ℕ → Result S TextCause) (number : ℕ) (state : S) (lines : List (List ℕ)) (found : TextFault)
+        → (read_lines take_line number state lines ≡ Err found) ↔ IsFirstFault take_line number state lines found }
+    ensures too_long { (name version : List ℕ) (meaning : ℕ → S → List (List ℕ) → Result S TextCause) (state : S) (text : List ℕ)
+        → most_bytes < length text → text_state name version meaning state text ≡ Err (fault 0 TooLong) }
+    ensures empty { (name version : List ℕ) (meaning : ℕ → S → List (List ℕ) → Result S TextCause) (state : S)
+        → text_state name version meaning state [] ≡ Err (fault 1 NoHeader) }
+    ensures text { (name version : List ℕ) (meaning : ℕ → S → List (List ℕ) → Result S TextCause) (state : S) (text : List ℕ) (found : TextFault)
+        → length text ≤ most_bytes → text ≢ []
+        → (text_state name version meaning state text ≡ Err found) ↔ IsFirstFault (text_line name version meaning) 1 state (lines_of text) found }
+{}
