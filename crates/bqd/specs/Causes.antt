@@ -1,72 +1,64 @@
--- The causes of each status, over the words, the bytes and the counts of faults.
-use Rattle.std.specs.Prelude.{◌≡◌, ℕ, map, ◌+◌, List, None, Ok, Err, IsSome, IfSome, MatchResult, take, ◌⊎◌}
+-- The causes of each status, over the command, the input's bytes and the counts of faults.
+use Rattle.std.specs.Prelude.{◌≡◌, true, false, ℕ, map, ◌+◌, List, Option, None, IsSome, IfSome, nat_le, take, ◌⊎◌, if◌then◌else◌}
 use Rattle.std.specs.Io.KnownBytes.{Appends, Consumes, IsAtEnd}
 use Rattle.std.specs.String.{string_bytes}
 use Rattle.std.specs.declared.string.String.{String}
-use Rattle.bq_model.specs.declared.group.Group.{Group}
-use Rattle.bq_model.specs.declared.fault.TextFault.{TextFault}
-use Rattle.job_text.specs.declared.file.Unit.{Unit as JobUnit}
 use Rattle.text_lines.specs.Reading.{most_bytes}
-use Rattle.bqd.specs.Input.{file_of}
-use Rattle.job_text.specs.Replies.{replies_of}
-use Rattle.bulk_dispatcher.specs.declared.reply.Reply.{Reply}
-use Rattle.bulk_dispatcher.specs.Books.{BooksFit}
-use Rattle.bulk_dispatcher.specs.Replies.{RepliesFit}
-use Rattle.bqd.specs.Command.{command_in}
-use Rattle.bqd.specs.Line.{fault_text}
-use Rattle.bqd.specs.Usage.{usage_text}
+use Rattle.bqd.specs.declared.command.Command.{Command}
+use Rattle.bqd.specs.Command.{command_in, reads}
+use Rattle.bqd.specs.Due.{Due, due_of}
 use Rattle.bqd.specs.Streams.{Change, IsUntouched, IsFaulty, FailsAt}
 
--- a call of the program: its words, and what it did to its streams
+-- a call of the program: the command that its words are, if they are one, and what it did to its streams
 pub record Call : Type 0 where
-  pub words : List (List ℕ)
+  pub command : Option Command
   pub source : Change
   pub out : Change
   pub err : Change
 
 -- a call with these words, which did this to its streams
 abbrev pub call : {Z : Type 0} → List (String Z) → Change → Change → Change → Call
-call words source out err = record { words = map (λ word. string_bytes word) words; source = source; out = out; err = err }
+call words source out err = record { command = command_in (map (λ word. string_bytes word) words); source = source; out = out; err = err }
+
+abbrev pub IsCommand : Call → Type 0
+IsCommand call = IsSome call.command
 
 -- the words are a command that reads its input
 abbrev pub ReadsInput : Call → Type 0
-ReadsInput call = IsSome (command_in call.words)
+ReadsInput call = reads call.command ≡ true
 
--- The jobs of these bytes were run: the replies are written, the lanes' books fit the file, and each reply names the
--- operation that got its job.
-pub record AreRun (out : Change) (replies : List Reply) (books : List (List Group)) (bytes : List ℕ) : Type 0 where
-  pub file : List JobUnit
-  pub is_read : file_of bytes ≡ Ok file
-  pub written : Appends out.before out.after (replies_of file)
-  pub books_fit : BooksFit file 2 books
-  pub replies_fit : RepliesFit file books replies
+-- what is due of the call
+abbrev pub due_in : Call → Option Due
+due_in call = due_of call.command call.source.before
+
+-- the sink that a text of this status goes to: from status 2 on it is a line of an error
+abbrev pub sink_of : ℕ → Call → Change
+sink_of status call = if nat_le 2 status then call.err else call.out
+
+abbrev pub other_sink : ℕ → Call → Change
+other_sink status call = if nat_le 2 status then call.out else call.err
+
+-- the text that was due with this status was written, and nothing else
+pub record IsTold (status : ℕ) (call : Call) : Type 0 where
+  pub due : IfSome (due_in call) (λ due. (due.status ≡ status) × Appends (sink_of status call).before (sink_of status call).after due.text)
+  pub other_stays : IsUntouched (other_sink status call)
 
 -- 0: the command was done
-pub record IsDone (call : Call) (replies : List Reply) (books : List (List Group)) : Type 0 where
-  pub command : ReadsInput call
-  pub to_the_end : IsAtEnd call.source.after
-  pub run : IfSome call.source.before (AreRun call.out replies books)
-  pub err_stays : IsUntouched call.err
+pub record IsDone (call : Call) : Type 0 where
+  pub command : IsCommand call
+  pub told : IsTold 0 call
+  pub to_the_end : ReadsInput call → IsAtEnd call.source.after
 
 -- 2: the words are no command, and the usage line was written
 pub record IsUsage (call : Call) : Type 0 where
-  pub no_command : command_in call.words ≡ None
-  pub told : Appends call.err.before call.err.after usage_text
-  pub out_stays : IsUntouched call.out
-  pub source_stays : IsUntouched call.source
-
--- these bytes are no job file, and the line of their fault was written
-pub record AreRefused (err : Change) (bytes : List ℕ) : Type 0 where
-  pub fault : TextFault
-  pub is_fault : file_of bytes ≡ Err fault
-  pub told : Appends err.before err.after (fault_text fault)
+  pub no_command : call.command ≡ None
+  pub told : IsTold 2 call
 
 -- 3: the grammar of the command refuses the input, which was read to its end or one byte further than a text may go
 pub record IsRefused (call : Call) : Type 0 where
   pub command : ReadsInput call
+  pub told : IsTold 3 call
   pub is_read : IfSome call.source.before (λ bytes. Consumes call.source.before call.source.after (take (most_bytes + 1) bytes))
-  pub refused : IfSome call.source.before (AreRefused call.err)
-  pub out_stays : IsUntouched call.out
 
 -- 4: a read failed, and nothing was written
 pub record IsReadFailure (call : Call) : Type 0 where
@@ -75,23 +67,38 @@ pub record IsReadFailure (call : Call) : Type 0 where
   pub out_stays : IsUntouched call.out
   pub err_stays : IsUntouched call.err
 
--- A write of what is due for these bytes failed: of the replies to a job file, or of the line of a fault.
-abbrev pub FailsToTell : Change → Change → List ℕ → Type 0
-FailsToTell out err bytes =
-    MatchResult (file_of bytes) (λ file. FailsAt out err (replies_of file)) (λ fault. FailsAt err out (fault_text fault))
+-- a write failed at the sink of what is due, which has a front of its text
+abbrev pub FailsToTell : Call → Due → Type 0
+FailsToTell call due = FailsAt (sink_of due.status call) (other_sink due.status call) due.text
 
--- 5: a write of what is due failed, where the words are no command or where they are one
+-- 5: a write of what is due failed
 pub record IsWriteFailure (call : Call) : Type 0 where
   pub faulty : IsFaulty call.out ⊎ IsFaulty call.err
-  pub usage : command_in call.words ≡ None → FailsAt call.err call.out usage_text × IsUntouched call.source
-  pub command : ReadsInput call → IfSome call.source.before (FailsToTell call.out call.err)
+  pub due : IfSome (due_in call) (FailsToTell call)
 
 -- 6: memory was lacking, and nothing was written
 pub record IsOutOfMemory (call : Call) : Type 0 where
-  pub command : ReadsInput call
+  pub command : IsCommand call
   pub out_stays : IsUntouched call.out
   pub err_stays : IsUntouched call.err
+
+-- What is due comes where no read of the input and no write of the text fails, if memory is not lacking.
+abbrev pub DueComes : ℕ → Call → Type 0
+DueComes status call = IfSome (due_in call) (λ due. (ReadsInput call → ¬ IsFaulty call.source) → ¬ IsFaulty (sink_of due.status call)
+    → (status ≡ due.status) ⊎ (status ≡ 6) × IsCommand call)
 
 -- the numbers that a call may end with
 abbrev pub IsStatus : ℕ → Type 0
 IsStatus status = (status ≡ 0) ⊎ (status ≡ 2) ⊎ (status ≡ 3) ⊎ (status ≡ 4) ⊎ (status ≡ 5) ⊎ (status ≡ 6)
+
+-- each status has its cause
+pub record IsExplained (status : ℕ) (call : Call) : Type 0 where
+  pub known : IsStatus status
+  pub done : status ≡ 0 → IsDone call
+  pub usage : status ≡ 2 → IsUsage call
+  pub refused : status ≡ 3 → IsRefused call
+  pub read_failed : status ≡ 4 → IsReadFailure call
+  pub write_failed : status ≡ 5 → IsWriteFailure call
+  pub out_of_memory : status ≡ 6 → IsOutOfMemory call
+  pub due_comes : DueComes status call
+  pub source_stays : reads call.command ≡ false → IsUntouched call.source

@@ -5,7 +5,7 @@ pub mod Line
 pub mod Output
 pub mod Streams
 pub mod Input
+pub mod Due
 pub mod Causes
 pub mod Status
 pub mod Runs
-pub mod Complete

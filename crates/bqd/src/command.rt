@@ -1,9 +1,12 @@
 // What the words of the command line ask for.
 ghost use Rattle.std.specs.Prelude.{◌≡◌, map};
 ghost use Rattle.std.specs.String.{string_bytes};
-ghost use Rattle.bqd.specs.Command.{command_in, is_one};
+ghost use Rattle.bqd.specs.Command.{command_in, gen_in, is_one};
 
 use text_lines::number_within;
+
+/// The most jobs of a file that is made up.
+const MOST_GENERATED: u64 = 500_000;
 
 /// What the program is asked to do.
 #[derive(Clone, Copy, Debug, PartialEq, Eq)]
@@ -14,6 +17,11 @@ pub enum Command {
         hands: u32,
         /// How many operations at most go to a queue as one.
         batch: u32,
+    },
+    /// Prints a job file that is made from a number.
+    Gen {
+        /// How many jobs it has, at most 500,000.
+        jobs: u32,
     },
 }
 
@@ -26,6 +34,7 @@ pub fn command_of(words: &[String]) -> Option<Command>
         [name, hands, batch] if name.as_str() == "run" && is_one(hands) && is_one(batch) => {
             Some(Command::Run { hands: 1, batch: 1 })
         }
+        [name, jobs] if name.as_str() == "gen" => gen_of(jobs),
         _ => None,
     }
 }
@@ -35,4 +44,14 @@ fn is_one(word: &String) -> bool
     ensures { result ≡ is_one (string_bytes word.now) }
 {
     number_within(word.as_bytes(), 1, 1).is_some()
+}
+
+// The command `gen` with this number of jobs.
+fn gen_of(jobs: &String) -> Option<Command>
+    ensures { result ≡ gen_in (string_bytes jobs.now) }
+{
+    match number_within(jobs.as_bytes(), 0, MOST_GENERATED) {
+        Some(jobs) => Some(Command::Gen { jobs: jobs as u32 }),
+        None => None,
+    }
 }

@@ -17,16 +17,14 @@ pub struct Ended {
 }
 
 impl Ended {
-    ghost use Rattle.bqd.specs.Status.{number_of};
-
     /// A call that ended with no replies.
-    pub(crate) fn without(alloc: Global, status: Status) -> Ended
-        ensures status { result.status ≡ number_of status }
+    pub(crate) fn without(alloc: Global, status: u8) -> Ended
+        ensures status { result.status ≡ status }
         ensures replies { result.replies ≡ [] }
         ensures books { result.books ≡ [] }
     {
         Ended {
-            status: status as u8,
+            status,
             replies: Items::new(alloc),
             books: Items::new(alloc),
         }

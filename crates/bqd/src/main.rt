@@ -1,8 +1,8 @@
 //! The program: a job file comes in by standard input, and its replies go out by standard output.
 //!
 //! `command` reads the words of the command line and `usage` says which there are; `input` reads all of the
-//! input and `file` the job file that it is; `top` is the program over any streams, `status` the numbers that it ends
-//! with and `ended` what it leaves; `replies` prints the replies, `output` writes all of a text, and `line` is the
+//! input and `file` the job file that it is; `top` is the program over any streams, and `still` those commands of it
+//! that run no jobs; `status` has the numbers that it ends with and `ended` what it leaves; `replies` prints the replies, `output` writes all of a text, and `line` is the
 //! line that tells the fault of a text. The texts that a user sees and the causes of the statuses stand in `specs/`.
 #![tactic(auto)]
 
@@ -14,6 +14,7 @@ mod line;
 mod output;
 mod replies;
 mod status;
+mod still;
 #[cfg(test)]
 mod tests;
 mod top;

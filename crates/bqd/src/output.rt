@@ -1,9 +1,10 @@
 // All of a text goes to a sink, over as many writes as the sink wants.
-ghost use Rattle.std.specs.Prelude.{◌≡◌, ◌≤◌, is_some, OnOk, OnErr};
+ghost use Rattle.std.specs.Prelude.{◌≡◌, ◌≤◌, ◌⊎◌, is_some, OnOk, OnErr};
 ghost use Rattle.std.specs.Io.KnownBytes.{Appends};
 ghost use Rattle.bq_model.specs.Device.{Rose};
 ghost use Rattle.bqd.specs.Output.{WroteFront};
 
+use crate::status::Status;
 use bq_model::{Failed, Sink};
 
 /// Writes all of the text, or a part from its front where a write fails. Each write is handed all that is still
@@ -20,4 +21,15 @@ pub fn write_all<W: Sink>(sink: &mut W, text: &[u8]) -> Result<(), Failed>
         sent += sink.write(&text[sent..])?;
     }
     Ok(())
+}
+
+/// Writes a text that is due with this status, and gives the status that this comes to.
+pub fn tell<E: Sink>(err: &mut E, text: &[u8], due: Status) -> Status
+    ensures told { (result ≡ due × Appends (E.written err.old) (E.written err.new) text.now)
+        ⊎ (result ≡ Status.WriteFailed × Rose (E.faults err.old) (E.faults err.new) × WroteFront (E.written err.old) (E.written err.new) text.now) }
+{
+    match write_all(err, text) {
+        Ok(()) => due,
+        Err(Failed) => Status::WriteFailed,
+    }
 }

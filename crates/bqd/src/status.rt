@@ -1,3 +1,5 @@
+ghost use Rattle.std.specs.Prelude.{◌≡◌};
+
 /// How a call of the program ends, as the number that the system is told.
 #[derive(Clone, Copy, Debug, PartialEq, Eq)]
 pub enum Status {
@@ -13,4 +15,15 @@ pub enum Status {
     WriteFailed = 5,
     /// Memory was lacking.
     OutOfMemory = 6,
+}
+
+impl Status {
+    ghost use Rattle.bqd.specs.Status.{number_of};
+
+    /// The number that the system is told.
+    pub fn number(self) -> u8
+        ensures { result ≡ number_of self }
+    {
+        self as u8
+    }
 }

@@ -93,7 +93,7 @@ fn words(alloc: Global, texts: &[&str]) -> Result<Vec<String>, AllocError> {
 }
 
 #[test]
-fn only_run_1_1_is_a_command(rt: HostRuntime) -> Result<(), Fail> {
+fn run_1_1_and_gen_are_commands(rt: HostRuntime) -> Result<(), Fail> {
     let run = Some(Command::Run { hands: 1, batch: 1 });
     let none: [&str; 0] = [];
     assert_eq!(rt; command_of(&words(rt.alloc(), &["run", "1", "1"])?), run);
@@ -107,6 +107,9 @@ fn only_run_1_1_is_a_command(rt: HostRuntime) -> Result<(), Fail> {
         command_of(&words(rt.alloc(), &["run", "1", "1", "1"])?),
         None
     );
+    let gen_7 = Some(Command::Gen { jobs: 7 });
+    assert_eq!(rt; command_of(&words(rt.alloc(), &["gen", "007"])?), gen_7);
+    assert_eq!(rt; command_of(&words(rt.alloc(), &["gen", "500001"])?), None);
     Ok(())
 }
 

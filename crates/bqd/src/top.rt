@@ -1,5 +1,5 @@
 // The program over any source and sinks.
-ghost use Rattle.std.specs.Prelude.{◌≡◌, ◌≢◌, true, ℕ, ◌⊎◌, [], Ok, IfOk, IfErr, IfSome, IsErrOf, map, is_some};
+ghost use Rattle.std.specs.Prelude.{◌≡◌, ◌≢◌, true, false, ℕ, ◌⊎◌, [], IfOk, IfErr, IsErrOf, Some, map};
 ghost use Rattle.std.specs.String.{string_bytes};
 ghost use Rattle.std.specs.Io.KnownBytes.{Appends};
 ghost use Rattle.bq_model.specs.Device.{Rose};
@@ -7,23 +7,21 @@ ghost use Rattle.job_text.specs.Replies.{replies_of};
 ghost use Rattle.bulk_dispatcher.specs.Books.{BooksFit};
 ghost use Rattle.bulk_dispatcher.specs.Replies.{RepliesFit};
 ghost use Rattle.bulk_dispatcher.specs.Served.{is_served};
-ghost use Rattle.bqd.specs.Command.{command_in};
-ghost use Rattle.bqd.specs.Usage.{usage_text};
-ghost use Rattle.bqd.specs.Line.{fault_text};
+ghost use Rattle.bqd.specs.declared.command.Command.{Command};
+ghost use Rattle.bqd.specs.Command.{command_in, runs};
 ghost use Rattle.bqd.specs.Output.{WroteFront};
 ghost use Rattle.bqd.specs.Streams.{change};
-ghost use Rattle.bqd.specs.Causes.{IsDone, IsUsage, IsRefused, IsReadFailure, IsWriteFailure, IsOutOfMemory, IsStatus, call};
-ghost use Rattle.bqd.specs.Complete.{UsageIsTold, FaultIsTold, ValidInputIsServed};
-ghost use Rattle.bqd.specs.Runs.{Explains};
+ghost use Rattle.bqd.specs.Causes.{IsExplained, call};
+ghost use Rattle.bqd.specs.Runs.{IsRun, RunEnds};
 
 use crate::command::{Command, command_of};
 use crate::ended::Ended;
 use crate::file::{FileFault, read_file};
 use crate::line::fault_line;
-use crate::output::write_all;
+use crate::output::{tell, write_all};
 use crate::replies::printed;
 use crate::status::Status;
-use crate::usage::usage;
+use crate::still::still;
 use bq_model::{Failed, Sink, Source};
 use bulk_dispatcher::{Done, Gate, run_hands};
 use job_text::JobFile;
@@ -60,17 +58,6 @@ fn answer_file<O: Sink, G: Gate, R: Threads + Sync>(
     }
 }
 
-// Tells a user a line that is due on this sink, and gives the status that this comes to.
-fn tell<E: Sink>(err: &mut E, text: &[u8], due: Status) -> Status
-    ensures told { (result ≡ due × Appends (E.written err.old) (E.written err.new) text.now)
-        ⊎ (result ≡ Status.WriteFailed × Rose (E.faults err.old) (E.faults err.new) × WroteFront (E.written err.old) (E.written err.new) text.now) }
-{
-    match write_all(err, text) {
-        Ok(()) => due,
-        Err(Failed) => Status::WriteFailed,
-    }
-}
-
 // Runs the job file that the source has.
 fn run<S: Source, O: Sink, E: Sink, G: Gate, R: Threads + Sync>(
     rt: &R,
@@ -80,8 +67,12 @@ fn run<S: Source, O: Sink, E: Sink, G: Gate, R: Threads + Sync>(
     err: &mut E,
     gate: &G,
 ) -> Result<Done, Status>
-    ensures { Explains (change S.left S.faults source.old source.new)
-        (change O.written O.faults out.old out.new) (change E.written E.faults err.old err.new) result }
+    ensures { (hands batch : ℕ) → RunEnds (record {
+      command = Some (Command.Run hands batch);
+      source = change S.left S.faults source.old source.new;
+      out = change O.written O.faults out.old out.new;
+      err = change E.written E.faults err.old err.new;
+    }) result }
 {
     match read_file(alloc, source) {
         Ok(file) => answer_file(rt, alloc, &file, out, gate),
@@ -106,37 +97,22 @@ pub fn top<S: Source, O: Sink, E: Sink, G: Gate, R: Threads + Sync>(
 ) -> Ended
     // The headline: the source was read to its end and the replies are written, the lanes' books are histories that a
     // single thread's queue gives and fit the file, and each reply names the operation that got its job.
-    ensures done { result.status ≡ 0 → IsDone (call words.now (change S.left S.faults source.old source.new)
+    ensures run { runs (command_in (map (λ w. string_bytes w) words.now)) ≡ true → result.status ≡ 0
+        → IsRun (call words.now (change S.left S.faults source.old source.new)
         (change O.written O.faults out.old out.new) (change E.written E.faults err.old err.new))
         result.replies result.books }
-    ensures lists_are_of_a_run { result.status ≢ 0 → (result.replies ≡ []) × (result.books ≡ []) }
+    ensures lists_are_of_a_run { (runs (command_in (map (λ w. string_bytes w) words.now)) ≡ false) ⊎ (result.status ≢ 0)
+        → (result.replies ≡ []) × (result.books ≡ []) }
 
-    // Each other status has its cause.
-    ensures known { IsStatus result.status }
-    ensures usage { result.status ≡ 2 → IsUsage (call words.now (change S.left S.faults source.old source.new)
+    // Each status has its cause, and what is due comes where no read or write fails.
+    ensures explained { IsExplained result.status (call words.now (change S.left S.faults source.old source.new)
         (change O.written O.faults out.old out.new) (change E.written E.faults err.old err.new)) }
-    ensures refused { result.status ≡ 3 → IsRefused (call words.now (change S.left S.faults source.old source.new)
-        (change O.written O.faults out.old out.new) (change E.written E.faults err.old err.new)) }
-    ensures read_failed { result.status ≡ 4 → IsReadFailure (call words.now (change S.left S.faults source.old source.new)
-        (change O.written O.faults out.old out.new) (change E.written E.faults err.old err.new)) }
-    ensures write_failed { result.status ≡ 5 → IsWriteFailure (call words.now (change S.left S.faults source.old source.new)
-        (change O.written O.faults out.old out.new) (change E.written E.faults err.old err.new)) }
-    ensures out_of_memory { result.status ≡ 6 → IsOutOfMemory (call words.now (change S.left S.faults source.old source.new)
-        (change O.written O.faults out.old out.new) (change E.written E.faults err.old err.new)) }
-
-    // What is due comes, where no read or write fails.
-    ensures usage_is_told { UsageIsTold (call words.now (change S.left S.faults source.old source.new)
-        (change O.written O.faults out.old out.new) (change E.written E.faults err.old err.new)) result.status }
-    ensures fault_is_told { FaultIsTold (call words.now (change S.left S.faults source.old source.new)
-        (change O.written O.faults out.old out.new) (change E.written E.faults err.old err.new)) result.status }
-    ensures valid_input_is_served { ValidInputIsServed (call words.now (change S.left S.faults source.old source.new)
-        (change O.written O.faults out.old out.new) (change E.written E.faults err.old err.new)) result.status }
 {
     match command_of(words) {
-        None => Ended::without(alloc, tell(err, usage(), Status::Usage)),
         Some(Command::Run { .. }) => match run(rt, alloc, source, out, err, gate) {
             Ok(done) => Ended::with(done),
-            Err(status) => Ended::without(alloc, status),
+            Err(status) => Ended::without(alloc, status.number()),
         },
+        _ => Ended::without(alloc, still(alloc, words, source, out, err)),
     }
 }

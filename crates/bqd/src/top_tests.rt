@@ -31,6 +31,8 @@ struct Case<'a> {
     failing_writes: &'a [u64],
     failing_lines: &'a [u64],
     status: u8,
+    /// Whether the input is not read.
+    kept: bool,
     out: &'a [u8],
     err: &'a [u8],
 }
@@ -52,8 +54,17 @@ fn quiet_case<'a>(
         failing_writes: &[],
         failing_lines: &[],
         status,
+        kept: status == 2,
         out,
         err,
+    }
+}
+
+/// A call of the generator, which reads no input.
+fn gen_case<'a>(words: &'a [&'a str], out: &'a [u8]) -> Case<'a> {
+    Case {
+        kept: true,
+        ..quiet_case(words, TWO_LINES, 0, out, b"")
     }
 }
 
@@ -99,12 +110,12 @@ fn made_past<R: Threads + Abort + Sync, G: Gate>(
     );
     assert!(rt; out.bytes() == case.out, "what was written");
     assert!(rt; err.bytes() == case.err, "the line of the error");
-    if case.status == 2 {
+    if case.kept {
         assert!(rt; source.left() == case.input, "the input is untouched");
-    }
-    if case.status == 0 {
+    } else if case.status == 0 {
         assert!(rt; source.left().is_empty(), "the input was read to its end");
-    } else {
+    }
+    if case.kept || case.status != 0 {
         assert!(rt;
             ended.replies.is_empty() && ended.books.is_empty(),
             "no lists"
@@ -235,13 +246,17 @@ fn a_block_has_at_most_100_jobs(rt: HostRuntime) -> Result<(), Fail> {
 
 #[test]
 fn other_words_get_the_usage_line(rt: HostRuntime) -> Result<(), Fail> {
-    let table: [&[&str]; 6] = [
+    let table: [&[&str]; 10] = [
         &[],
         &["run", "0", "1"],
         &["run", "17", "1"],
         &["run", "1", "257"],
         &["run", "1"],
         &["run", "1", "x"],
+        &["gen"],
+        &["gen", "500001"],
+        &["gen", "-1"],
+        &["gen", "1", "1"],
     ];
     for words in table {
         made(
@@ -249,6 +264,32 @@ fn other_words_get_the_usage_line(rt: HostRuntime) -> Result<(), Fail> {
             rt.alloc(),
             &quiet_case(words, TWO_LINES, 2, b"", USAGE),
         )?;
+    }
+    Ok(())
+}
+
+/// What `gen 3` prints.
+const THREE_JOBS: &[u8] =
+    b"bqjobs 1\njob 0 sum 0 1\nblock 1\nput digest 00000001\nput count 00 00000002\nend\n";
+
+#[test]
+fn job_files_are_made_from_a_number(rt: HostRuntime) -> Result<(), Fail> {
+    let seven =
+        b"bqjobs 1\njob 0 sum 0 1\nblock 1\nput digest 00000001\nput count 00 00000002\nend\n\
+          block 2\nput mix 3 100\nput words w4 x w4\nput sum 5 6\nend\njob 0 digest 00000006\n";
+    let cases = [
+        gen_case(&["gen", "3"], THREE_JOBS),
+        gen_case(&["gen", "0"], b"bqjobs 1\n"),
+        gen_case(&["gen", "007"], seven),
+        Case {
+            write_piece: 10,
+            failing_writes: &[2],
+            status: 5,
+            ..gen_case(&["gen", "3"], b"bqjobs 1\njob 0 sum 0")
+        },
+    ];
+    for case in &cases {
+        made(&rt, rt.alloc(), case)?;
     }
     Ok(())
 }

@@ -1,5 +1,5 @@
 -- Which files are run.
-use Rattle.std.specs.Prelude.{ℕ, Bool, List, length, ◌==◌, ◌&&◌}
+use Rattle.std.specs.Prelude.{Bool, List, length, ◌==◌, ◌&&◌}
 use Rattle.std.specs.List.{list_all}
 use Rattle.job_text.specs.declared.file.Unit.{Unit as JobUnit}
 

@@ -4,3 +4,6 @@ pub mod GrammarLemmas
 pub mod JobFileLemmas
 pub mod RangeLemmas
 pub mod ReplyLemmas
+pub mod CanonWords
+pub mod CanonLines
+pub mod GeneratorLemmas

@@ -1,32 +1,31 @@
 -- Each line keeps the ranges of a file.
-use Rattle.std.proofs.Common.{◌≡◌, ℕ, ◌+◌, ◌≤◌, Bool, true, false, List, [], ◌∷◌, ◌++◌, length, Option, Some, None, Result, Ok, Err, refl, ap, subst, ◌∙◌, arith, All, nat_le, ◌&&◌, leb-true, if◌then◌else◌, codes, leb-false, length-append}
+use Rattle.std.proofs.Common.{◌≡◌, ℕ, ◌+◌, ◌^◌, ◌<◌, ◌≤◌, List, [], ◌∷◌, ◌++◌, length, Option, Some, None, Result, Ok, Err, refl, ap, subst, ◌∙◌, arith, All, nat_le, ◌&&◌, leb-true, codes, leb-false, length-append}
 use Rattle.std.specs.Str.{bytes_eq}
 use Rattle.std.specs.Option.{option_map, option_and_then, IfSome}
-use Rattle.std.proofs.lemmas.List.Elements.{All-nil, All-cons, All-append, All-push}
+use Rattle.std.proofs.lemmas.List.Elements.{All-nil, All-cons, All-tail, All-append, All-push}
 use Rattle.std.proofs.lemmas.List.Sums.{sum_by-append}
 use Rattle.std.proofs.lemmas.Bool.{and_parts}
 use Rattle.bq_model.specs.declared.fault.TextCause.{TextCause}
 use Rattle.text_lines.specs.Cause.{both}
 use Rattle.text_lines.specs.Number.{number_of, number_within, within}
 use Rattle.text_lines.specs.Hex.{hex_of, byte_of}
-use Rattle.text_lines.proofs.ReadingLemmas.{text_state-keeps}
+use Rattle.text_lines.specs.Words.{IsWord}
+use Rattle.text_lines.proofs.NumberLemmas.{number_of-below, some_if}
+use Rattle.text_lines.proofs.HexLemmas.{AreBytes-hex_of, byte_of-below}
+use Rattle.text_lines.proofs.ReadingLemmas.{text_state-keeps, if_ok}
 use Rattle.job_work.specs.declared.job.Job.{Job}
 use Rattle.job_work.specs.declared.job.Job.TheVariants.{Sum, Digest, Count, Mix, Words}
 use Rattle.job_text.specs.declared.file.Unit.{Unit}
 use Rattle.job_text.specs.declared.block.Block.{Block}
 use Rattle.job_text.specs.Each.{each_of}
-use Rattle.job_text.specs.JobFile.{IsInRange, IsUnit, IsJobFile, job_count, most_jobs, most_lane, most_turns, most_in_unit}
+use Rattle.job_text.specs.JobFile.{AreBytes, IsInRange, IsUnit, IsJobFile, job_count, most_jobs, most_lane, most_turns, most_in_unit}
 use Rattle.job_text.specs.JobWords.{lane_of, lane_of_number, digest_of, count_of, mix_of, job_of, job_of_kind, lane_job_of, only_lane_of, or_bad_number}
 use Rattle.job_text.specs.Grammar.{LinesSay, unit_of, add_job, put_job, end_block, open_block, outside, inside, line_in, meaning, units_at_end, nothing_yet, progress_of, ◌>>=◌}
 use Rattle.job_text.specs.Counted.{jobs_in}
+use Rattle.job_text.proofs.EachLemmas.{All-each_of}
 use Rattle.job_text.specs.InProgress.{IsOpenBlock, IsInProgress}
 
 -- ---- cases
-
--- either of two choices
-if_ok : {A E P : Type 0} (b : Bool) (one other : Result A E) (value : A) → (if b then one else other) ≡ Ok value → (b ≡ true → one ≡ Ok value → P) → (b ≡ false → other ≡ Ok value → P) → P
-if_ok true one other value is then_is else_is = then_is refl is
-if_ok false one other value is then_is else_is = else_is refl is
 
 -- a step behind another
 behind_ok : {A B E P : Type 0} (first : Result A E) (next : A → Result B E) (value : B) → (first >>= next) ≡ Ok value → ((found : A) → first ≡ Ok found → next found ≡ Ok value → P) → P
@@ -36,11 +35,11 @@ behind_ok (Err error) next value is found_is = cc is
 -- ---- jobs and lanes
 
 -- what a number or bytes give
-found_ok : {A : Type 0} (kind : A → Job) (found : Option A) (job : Job) → ((x : A) → IsInRange (kind x)) → or_bad_number (option_map kind found) ≡ Ok job → IsInRange job
+found_ok : {A : Type 0} (kind : A → Job) (found : Option A) (job : Job) → ((x : A) → found ≡ Some x → IsInRange (kind x)) → or_bad_number (option_map kind found) ≡ Ok job → IsInRange job
 found_ok kind None job ranges is = cc is
 found_ok kind (Some x) job ranges is =
     let same : kind x ≡ job = cc is in
-    subst IsInRange same (ranges x)
+    subst IsInRange same (ranges x refl)
 
 lane_of_number-ok : (found : Option ℕ) (lane : ℕ) → lane_of_number found ≡ Ok lane → lane ≤ most_lane
 lane_of_number-ok None lane is = cc is
@@ -54,25 +53,22 @@ lane_of_number-ok (Some number) lane is =
 
 digest_of-ok : (words : List (List ℕ)) (job : Job) → digest_of words ≡ Ok job → IsInRange job
 digest_of-ok [] job is = cc is
-digest_of-ok (bytes ∷ []) job is = found_ok Digest (hex_of bytes) job (λ _. tt) is
+digest_of-ok (bytes ∷ []) job is = found_ok Digest (hex_of bytes) job (AreBytes-hex_of bytes) is
 digest_of-ok (bytes ∷ next ∷ others) job is = cc is
 
-counted_ok : (byte : Option ℕ) (bytes : Option (List ℕ)) (job : Job) → or_bad_number (option_and_then (λ counted. option_and_then (λ among. Some (Count counted among)) bytes) byte) ≡ Ok job → IsInRange job
-counted_ok None bytes job is = cc is
-counted_ok (Some byte) None job is = cc is
-counted_ok (Some byte) (Some bytes) job is =
+counted_ok : (byte : Option ℕ) (bytes : Option (List ℕ)) (job : Job) → ((b : ℕ) → byte ≡ Some b → b < 256) → ((bs : List ℕ) → bytes ≡ Some bs → AreBytes bs)
+    → or_bad_number (option_and_then (λ counted. option_and_then (λ among. Some (Count counted among)) bytes) byte) ≡ Ok job → IsInRange job
+counted_ok None bytes job one all is = cc is
+counted_ok (Some byte) None job one all is = cc is
+counted_ok (Some byte) (Some bytes) job one all is =
     let same : Count byte bytes ≡ job = cc is in
-    subst IsInRange same tt
+    subst IsInRange same (one byte refl, all bytes refl)
 
 count_of-ok : (words : List (List ℕ)) (job : Job) → count_of words ≡ Ok job → IsInRange job
 count_of-ok [] job is = cc is
 count_of-ok (byte ∷ []) job is = cc is
-count_of-ok (byte ∷ bytes ∷ []) job is = counted_ok (byte_of byte) (hex_of bytes) job is
+count_of-ok (byte ∷ bytes ∷ []) job is = counted_ok (byte_of byte) (hex_of bytes) job (byte_of-below byte) (AreBytes-hex_of bytes) is
 count_of-ok (byte ∷ bytes ∷ next ∷ others) job is = cc is
-
-some_if : (b : Bool) (one found : ℕ) → (if b then Some one else None) ≡ Some found → (b ≡ true) × (one ≡ found)
-some_if true one found is = (refl, cc is)
-some_if false one found is = cc is
 
 -- a number in a range
 within-some : (most number found : ℕ) → within 0 most number ≡ Some found → found ≤ most
@@ -89,31 +85,31 @@ number_within-some most word found is =
       | Some number ↦ λ is. within-some most number found is
     ] is
 
-mixed_ok : (start turns : Option ℕ) (job : Job) → ((found : ℕ) → turns ≡ Some found → found ≤ most_turns)
+mixed_ok : (start turns : Option ℕ) (job : Job) → ((found : ℕ) → start ≡ Some found → found < 2 ^ 64) → ((found : ℕ) → turns ≡ Some found → found ≤ most_turns)
     → or_bad_number (option_and_then (λ first. option_and_then (λ often. Some (Mix first often)) turns) start) ≡ Ok job → IsInRange job
-mixed_ok None turns job few is = cc is
-mixed_ok (Some start) None job few is = cc is
-mixed_ok (Some start) (Some turns) job few is =
+mixed_ok None turns job small few is = cc is
+mixed_ok (Some start) None job small few is = cc is
+mixed_ok (Some start) (Some turns) job small few is =
     let same : Mix start turns ≡ job = cc is in
-    subst IsInRange same (few turns refl)
+    subst IsInRange same (small start refl, few turns refl)
 
 mix_of-ok : (words : List (List ℕ)) (job : Job) → mix_of words ≡ Ok job → IsInRange job
 mix_of-ok [] job is = cc is
 mix_of-ok (start ∷ []) job is = cc is
-mix_of-ok (start ∷ turns ∷ []) job is = mixed_ok (number_of start) (number_within 0 most_turns turns) job (number_within-some most_turns turns) is
+mix_of-ok (start ∷ turns ∷ []) job is = mixed_ok (number_of start) (number_within 0 most_turns turns) job (number_of-below start) (number_within-some most_turns turns) is
 mix_of-ok (start ∷ turns ∷ next ∷ others) job is = cc is
 
-job_of_kind-ok : (kind : List ℕ) (words : List (List ℕ)) (job : Job) → job_of_kind kind words ≡ Ok job → IsInRange job
-job_of_kind-ok kind words job is =
-    if_ok (bytes_eq kind (codes "sum")) _ _ job is (λ _ sum. found_ok Sum (each_of number_of words) job (λ _. tt) sum) (λ _ is1.
+job_of_kind-ok : (kind : List ℕ) (words : List (List ℕ)) (job : Job) → All IsWord words → job_of_kind kind words ≡ Ok job → IsInRange job
+job_of_kind-ok kind words job are is =
+    if_ok (bytes_eq kind (codes "sum")) _ _ job is (λ _ sum. found_ok Sum (each_of number_of words) job (All-each_of number_of (λ number. number < 2 ^ 64) number_of-below words) sum) (λ _ is1.
     if_ok (bytes_eq kind (codes "digest")) _ _ job is1 (λ _ digest. digest_of-ok words job digest) (λ _ is2.
     if_ok (bytes_eq kind (codes "count")) _ _ job is2 (λ _ count. count_of-ok words job count) (λ _ is3.
     if_ok (bytes_eq kind (codes "mix")) _ _ job is3 (λ _ mix. mix_of-ok words job mix) (λ _ is4.
-    if_ok (bytes_eq kind (codes "words")) _ _ job is4 (λ _ any. (let same : Words words ≡ job = cc any in subst IsInRange same tt)) (λ _ none. cc none)))))
+    if_ok (bytes_eq kind (codes "words")) _ _ job is4 (λ _ any. (let same : Words words ≡ job = cc any in subst IsInRange same are)) (λ _ none. cc none)))))
 
-job_of-ok : (words : List (List ℕ)) (job : Job) → job_of words ≡ Ok job → IsInRange job
-job_of-ok [] job is = cc is
-job_of-ok (kind ∷ arguments) job is = job_of_kind-ok kind arguments job is
+job_of-ok : (words : List (List ℕ)) (job : Job) → All IsWord words → job_of words ≡ Ok job → IsInRange job
+job_of-ok [] job are is = cc is
+job_of-ok (kind ∷ arguments) job are is = job_of_kind-ok kind arguments job (All-tail IsWord kind arguments are) is
 
 both-ok : {A B P : Type 0} (one : Result A TextCause) (other : Result B TextCause) (pair : A × B) → both one other ≡ Ok pair → (one ≡ Ok pair.0 → other ≡ Ok pair.1 → P) → P
 both-ok (Ok a) (Ok b) pair is found =
@@ -123,10 +119,10 @@ both-ok (Ok a) (Err d) pair is found = cc is
 both-ok (Err c) (Ok b) pair is found = cc is
 both-ok (Err c) (Err d) pair is found = cc is
 
-lane_job_of-ok : (words : List (List ℕ)) (found : ℕ × Job) → lane_job_of words ≡ Ok found → (found.0 ≤ most_lane) × IsInRange found.1
-lane_job_of-ok [] found is = cc is
-lane_job_of-ok (lane ∷ words) found is =
-    both-ok (lane_of lane) (job_of words) found is (λ lane_is job_is. (lane_of_number-ok (number_of lane) found.0 lane_is, job_of-ok words found.1 job_is))
+lane_job_of-ok : (words : List (List ℕ)) (found : ℕ × Job) → All IsWord words → lane_job_of words ≡ Ok found → (found.0 ≤ most_lane) × IsInRange found.1
+lane_job_of-ok [] found are is = cc is
+lane_job_of-ok (lane ∷ words) found are is =
+    both-ok (lane_of lane) (job_of words) found is (λ lane_is job_is. (lane_of_number-ok (number_of lane) found.0 lane_is, job_of-ok words found.1 (All-tail IsWord lane words are) job_is))
 
 only_lane_of-ok : (words : List (List ℕ)) (lane : ℕ) → only_lane_of words ≡ Ok lane → lane ≤ most_lane
 only_lane_of-ok [] lane is = cc is
@@ -139,7 +135,7 @@ job_count-unit_of : (lane : ℕ) (jobs : List Job) → job_count (unit_of lane j
 job_count-unit_of lane [] = refl
 job_count-unit_of lane (job ∷ jobs) = omega arith
 
-job_count-more_jobs : (units : List Unit) (lane : ℕ) (jobs : List Job) → job_count (units ++ unit_of lane jobs) ≡ job_count units + length jobs
+pub job_count-more_jobs : (units : List Unit) (lane : ℕ) (jobs : List Job) → job_count (units ++ unit_of lane jobs) ≡ job_count units + length jobs
 job_count-more_jobs units lane jobs =
     sum_by-append (λ (unit : Unit). length unit.jobs) units (unit_of lane jobs) ∙ ap (λ n. job_count units + n) (job_count-unit_of lane jobs)
 
@@ -207,28 +203,28 @@ open_block-keeps number units words next units_are few is =
     } in
     subst IsInProgress same kept)
 
-outside-keeps : (number : ℕ) (units : List Unit) (words : List (List ℕ)) (next : LinesSay) → All IsUnit units → job_count units ≤ most_jobs → outside number units words ≡ Ok next → IsInProgress next
-outside-keeps number units [] next units_are few is = cc is
-outside-keeps number units (word ∷ words) next units_are few is =
+outside-keeps : (number : ℕ) (units : List Unit) (words : List (List ℕ)) (next : LinesSay) → All IsWord words → All IsUnit units → job_count units ≤ most_jobs → outside number units words ≡ Ok next → IsInProgress next
+outside-keeps number units [] next are units_are few is = cc is
+outside-keeps number units (word ∷ words) next are units_are few is =
     if_ok (bytes_eq word (codes "job")) _ _ next is
-    (λ _ job_is. behind_ok (lane_job_of words) (add_job units) next job_is (λ found found_is added. add_job-keeps units found next units_are (lane_job_of-ok words found found_is) added))
+    (λ _ job_is. behind_ok (lane_job_of words) (add_job units) next job_is (λ found found_is added. add_job-keeps units found next units_are (lane_job_of-ok words found (All-tail IsWord word words are) found_is) added))
     (λ _ other_is. if_ok (bytes_eq word (codes "block")) _ _ next other_is (λ _ opens. open_block-keeps number units words next units_are few opens) (λ _ none. cc none))
 
-inside-keeps : (units : List Unit) (block : Block) (words : List (List ℕ)) (next : LinesSay) → All IsUnit units → IsOpenBlock block → job_count units + length block.jobs ≤ most_jobs
+inside-keeps : (units : List Unit) (block : Block) (words : List (List ℕ)) (next : LinesSay) → All IsWord words → All IsUnit units → IsOpenBlock block → job_count units + length block.jobs ≤ most_jobs
     → inside units block words ≡ Ok next → IsInProgress next
-inside-keeps units block [] next units_are open_is few is = cc is
-inside-keeps units block (word ∷ words) next units_are open_is few is =
+inside-keeps units block [] next are units_are open_is few is = cc is
+inside-keeps units block (word ∷ words) next are units_are open_is few is =
     if_ok (bytes_eq word (codes "put")) _ _ next is
-    (λ _ put_is. behind_ok (job_of words) (put_job units block) next put_is (λ job job_is put. put_job-keeps units block job next units_are open_is (job_of-ok words job job_is) put))
+    (λ _ put_is. behind_ok (job_of words) (put_job units block) next put_is (λ job job_is put. put_job-keeps units block job next units_are open_is (job_of-ok words job (All-tail IsWord word words are) job_is) put))
     (λ _ other_is. if_ok (bytes_eq word (codes "end")) _ _ next other_is (λ _ ends. end_block-keeps units block words next units_are open_is few ends) (λ _ none. cc none))
 
-line_in-keeps : (block : Option Block) (number : ℕ) (units : List Unit) (words : List (List ℕ)) (next : LinesSay) → All IsUnit units → IfSome block IsOpenBlock → job_count units + jobs_in block ≤ most_jobs
+line_in-keeps : (block : Option Block) (number : ℕ) (units : List Unit) (words : List (List ℕ)) (next : LinesSay) → All IsWord words → All IsUnit units → IfSome block IsOpenBlock → job_count units + jobs_in block ≤ most_jobs
     → line_in block number units words ≡ Ok next → IsInProgress next
-line_in-keeps None number units words next units_are block_is few is = outside-keeps number units words next units_are (omega arith) is
-line_in-keeps (Some block) number units words next units_are block_is few is = inside-keeps units block words next units_are block_is few is
+line_in-keeps None number units words next are units_are block_is few is = outside-keeps number units words next are units_are (omega arith) is
+line_in-keeps (Some block) number units words next are units_are block_is few is = inside-keeps units block words next are units_are block_is few is
 
-meaning-keeps : (number : ℕ) (so_far next : LinesSay) (words : List (List ℕ)) → IsInProgress so_far → meaning number so_far words ≡ Ok next → IsInProgress next
-meaning-keeps number so_far next words kept is = line_in-keeps so_far.block number so_far.units words next kept.units_are kept.block_is kept.count is
+meaning-keeps : (number : ℕ) (so_far next : LinesSay) (words : List (List ℕ)) → All IsWord words → IsInProgress so_far → meaning number so_far words ≡ Ok next → IsInProgress next
+meaning-keeps number so_far next words are kept is = line_in-keeps so_far.block number so_far.units words next are kept.units_are kept.block_is kept.count is
 
 -- what all lines of a text say is in the ranges of a file
 pub IsInProgress-progress_of : (text : List ℕ) (so_far : LinesSay) → progress_of text ≡ Ok so_far → IsInProgress so_far

@@ -1,5 +1,6 @@
 -- The jobs of a file's units.
-use Rattle.std.specs.Prelude.{◌≡◌, ℕ, ◌≤◌, ◌<◌, List, length, take, map, Option, slice_get, slice_index, All, sum_by, flat_map, ⊤}
+use Rattle.std.specs.Prelude.{◌≡◌, ℕ, ◌^◌, ◌≤◌, ◌<◌, List, length, take, map, Option, slice_get, slice_index, All, sum_by, flat_map}
+use Rattle.text_lines.specs.Words.{IsWord}
 use Rattle.job_work.specs.declared.job.Job.{Job}
 use Rattle.job_work.specs.declared.job.Job.TheVariants.{Sum, Digest, Count, Mix, Words}
 use Rattle.job_text.specs.declared.file.Unit.{Unit}
@@ -36,13 +37,17 @@ lane_jobs units = flat_map (λ unit. map (λ job. (unit.lane, job)) unit.jobs) u
 abbrev pub job_at : List Unit → ℕ → Option (ℕ × Job)
 job_at units number = slice_get (lane_jobs units) number
 
+-- whether all of these are bytes
+abbrev pub AreBytes : List ℕ → Type 0
+AreBytes bytes = All (λ byte. byte < 256) bytes
+
 -- whether a job is in the ranges of the format
 abbrev pub IsInRange : Job → Type 0
-IsInRange (Sum numbers) = ⊤
-IsInRange (Digest bytes) = ⊤
-IsInRange (Count byte bytes) = ⊤
-IsInRange (Mix start turns) = turns ≤ most_turns
-IsInRange (Words words) = ⊤
+IsInRange (Sum numbers) = All (λ number. number < 2 ^ 64) numbers
+IsInRange (Digest bytes) = AreBytes bytes
+IsInRange (Count byte bytes) = (byte < 256) × AreBytes bytes
+IsInRange (Mix start turns) = (start < 2 ^ 64) × (turns ≤ most_turns)
+IsInRange (Words words) = All IsWord words
 
 -- a unit that a file may have
 pub record IsUnit (unit : Unit) : Type 0 where

@@ -7,3 +7,5 @@ pub mod Counted
 pub mod InProgress
 pub mod Reads
 pub mod Replies
+pub mod Canon
+pub mod Generator

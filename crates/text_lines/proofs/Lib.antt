@@ -4,3 +4,6 @@ pub mod LineLemmas
 pub mod WordLemmas
 pub mod HexLemmas
 pub mod ReadingLemmas
+pub mod IsWordLemmas
+pub mod PrintedLines
+pub mod PrintedValues

@@ -24,7 +24,7 @@ pub slice_split-no_byte : (at : ℕ) (text : List ℕ) → IsFirstByte (is_byte 
 slice_split-no_byte at text nowhere =
     slice_split_none (is_byte at) text (All-from_get_or (λ x. is_byte at x ≡ false) text 0 (λ k below. false_from_ne_true _ (nowhere k (omega arith) below)))
 
-without_empty_end-cons : (line : List ℕ) (parts : List (List ℕ)) → 0 < length parts → without_empty_end (line ∷ parts) ≡ line ∷ without_empty_end parts
+pub without_empty_end-cons : (line : List ℕ) (parts : List (List ℕ)) → 0 < length parts → without_empty_end (line ∷ parts) ≡ line ∷ without_empty_end parts
 without_empty_end-cons line [] some = absurd (omega arith)
 without_empty_end-cons [] (next ∷ others) some = refl
 without_empty_end-cons (byte ∷ line) (next ∷ others) some = refl

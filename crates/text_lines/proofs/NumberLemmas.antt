@@ -1,5 +1,5 @@
 -- The number that a word is, one byte after another.
-use Rattle.std.proofs.Common.{◌≡◌, ℕ, ◌+◌, ◌-◌, ◌*◌, ◌^◌, ◌<◌, ◌≤◌, Bool, true, ◌&&◌, List, length, get_or, take, Some, None, refl, sym, ap, ap₂, ◌∙◌, arith}
+use Rattle.std.proofs.Common.{◌≡◌, ℕ, ◌+◌, ◌-◌, ◌*◌, ◌^◌, ◌<◌, ◌≤◌, Bool, true, false, ◌&&◌, List, length, get_or, take, Some, None, refl, sym, ap, ap₂, ◌∙◌, arith, if◌then◌else◌}
 use Rattle.std.specs.List.{list_all}
 use Rattle.std.specs.Char.{is_ascii_digit, IsAsciiDigit}
 use Rattle.std.specs.Str.Parse.{digits_value}
@@ -13,7 +13,7 @@ use Rattle.std.proofs.lemmas.Str.{digit_value_digit}
 use Rattle.std.proofs.lemmas.Str.Parse.{digits_value-take-le}
 use Rattle.text_lines.specs.Number.{is_number, number_of}
 
-IsAsciiDigit-from_test : (c : ℕ) → is_ascii_digit c ≡ true → IsAsciiDigit c
+pub IsAsciiDigit-from_test : (c : ℕ) → is_ascii_digit c ≡ true → IsAsciiDigit c
 IsAsciiDigit-from_test c yes_is = grind (arith, nat_tests)
 
 test_from_IsAsciiDigit : (c : ℕ) → IsAsciiDigit c → is_ascii_digit c ≡ true
@@ -60,3 +60,15 @@ number_of-whole word i value nonempty whole digits value_is small =
     let all : take i word ≡ word = take_all i word whole in
     let value_of_word : value ≡ digits_value 10 word = value_is ∙ ap (digits_value 10) all in
     ap Some value_of_word ∙ sym (number_of-some word nonempty (rw (← all) digits) (omega arith))
+
+pub some_if : (b : Bool) (one found : ℕ) → (if b then Some one else None) ≡ Some found → (b ≡ true) × (one ≡ found)
+some_if true one found is = (refl, cc is)
+some_if false one found is = cc is
+
+-- a number that was read is below 2^64
+pub number_of-below : (word : List ℕ) (number : ℕ) → number_of word ≡ Some number → number < 2 ^ 64
+number_of-below word number is =
+    let found = some_if (is_number word) (digits_value 10 word) number is in
+    let small = (is_number-parts word found.0).2 in
+    let same = found.1 in
+    omega arith

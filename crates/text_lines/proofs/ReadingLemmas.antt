@@ -1,5 +1,5 @@
 -- A text's first fault, and its lines one after another.
-use Rattle.std.proofs.Common.{◌≡◌, ◌≢◌, ℕ, ◌+◌, ◌<◌, ◌≤◌, true, false, Bool, List, [], ◌∷◌, ◌++◌, length, Result, Ok, Err, refl, sym, ap, subst, ◌∙◌, arith, ⊎_elim, add-zero, le-leb, leb-true, take, if◌then◌else◌, ◌==◌, nat_le}
+use Rattle.std.proofs.Common.{◌≡◌, ◌≢◌, ℕ, ◌+◌, ◌<◌, ◌≤◌, true, false, Bool, List, [], ◌∷◌, ◌++◌, length, Result, Ok, Err, refl, sym, ap, subst, ◌∙◌, arith, ⊎_elim, add-zero, le-leb, leb-true, take, All, if◌then◌else◌, ◌==◌, nat_le}
 use Rattle.std.specs.List.{slice_split, onto_first}
 use Rattle.std.proofs.lemmas.Bool.{cases_Bool, cases_lt, false_from_ne_true}
 use Rattle.std.proofs.lemmas.List.{length-take, take_all}
@@ -9,7 +9,8 @@ use Rattle.bq_model.specs.declared.fault.TextCause.{TextCause}
 use Rattle.bq_model.specs.declared.fault.TextFault.{TextFault}
 use Rattle.memchr.specs.Find.{is_byte}
 use Rattle.text_lines.specs.Lines.{lines_of, is_text, without_empty_end}
-use Rattle.text_lines.specs.Words.{words_of, is_header, is_passed_over}
+use Rattle.text_lines.specs.Words.{words_of, IsWord, is_header, is_passed_over}
+use Rattle.text_lines.proofs.IsWordLemmas.{IsWord-words_of}
 use Rattle.text_lines.specs.Reading.{read_lines, behind_line, fault, words_line, text_line, whole_text, text_state, most_bytes, IsFirstFault}
 
 module _ {S : Type 0} (take_line : ℕ → S → List ℕ → Result S TextCause) where
@@ -133,9 +134,9 @@ length-lines_of text = omega (arith, length-without_empty_end (slice_split (is_b
 -- ---- what each line keeps, a text keeps
 
 -- either of two choices
-if_ok : {A E P : Type 0} (b : Bool) (one other : Result A E) (value : A) → (if b then one else other) ≡ Ok value → (one ≡ Ok value → P) → (other ≡ Ok value → P) → P
-if_ok true one other value is then_is else_is = then_is is
-if_ok false one other value is then_is else_is = else_is is
+pub if_ok : {A E P : Type 0} (b : Bool) (one other : Result A E) (value : A) → (if b then one else other) ≡ Ok value → (b ≡ true → one ≡ Ok value → P) → (b ≡ false → other ≡ Ok value → P) → P
+if_ok true one other value is then_is else_is = then_is refl is
+if_ok false one other value is then_is else_is = else_is refl is
 
 module _ {S : Type 0} (Kept : S → Type 0) (take_line : ℕ → S → List ℕ → Result S TextCause) (keeps : (number : ℕ) (state next : S) (line : List ℕ) → Kept state → take_line number state line ≡ Ok next → Kept next) where
   read_lines-keeps : (number : ℕ) (state last : S) (lines : List (List ℕ)) → Kept state → read_lines take_line number state lines ≡ Ok last → Kept last
@@ -148,26 +149,26 @@ module _ {S : Type 0} (Kept : S → Type 0) (take_line : ℕ → S → List ℕ 
         | Err cause ↦ λ takes later. cc later
       ] refl is
 
-module _ {S : Type 0} (Kept : S → Type 0) (name version : List ℕ) (meaning : ℕ → S → List (List ℕ) → Result S TextCause) (keeps : (number : ℕ) (state next : S) (words : List (List ℕ)) → Kept state → meaning number state words ≡ Ok next → Kept next) where
-  words_line-keeps : (number : ℕ) (state next : S) (words : List (List ℕ)) → Kept state → words_line name version meaning number state words ≡ Ok next → Kept next
-  words_line-keeps number state next words kept is =
+module _ {S : Type 0} (Kept : S → Type 0) (name version : List ℕ) (meaning : ℕ → S → List (List ℕ) → Result S TextCause) (keeps : (number : ℕ) (state next : S) (words : List (List ℕ)) → All IsWord words → Kept state → meaning number state words ≡ Ok next → Kept next) where
+  words_line-keeps : (number : ℕ) (state next : S) (words : List (List ℕ)) → All IsWord words → Kept state → words_line name version meaning number state words ≡ Ok next → Kept next
+  words_line-keeps number state next words are kept is =
       let stays : ◌≡◌ {A = Result S TextCause} (Ok state) (Ok next) → Kept next = λ e. (let same : state ≡ next = cc e in subst Kept same kept) in
       if_ok (number == 1) _ _ next is
-      (λ first. if_ok (is_header name version words) _ _ next first stays (λ e. cc e))
-      (λ later. if_ok (is_passed_over words) _ _ next later stays (keeps number state next words kept))
+      (λ _ first. if_ok (is_header name version words) _ _ next first (λ _ e. stays e) (λ _ e. cc e))
+      (λ _ later. if_ok (is_passed_over words) _ _ next later (λ _ e. stays e) (λ _ e. keeps number state next words are kept e))
 
   text_line-keeps : (number : ℕ) (state next : S) (line : List ℕ) → Kept state → text_line name version meaning number state line ≡ Ok next → Kept next
   text_line-keeps number state next line kept is =
-      if_ok (is_text line) _ _ next is (words_line-keeps number state next (words_of line) kept) (λ e. cc e)
+      if_ok (is_text line) _ _ next is (λ text says. words_line-keeps number state next (words_of line) (IsWord-words_of line text) kept says) (λ _ e. cc e)
 
   whole_text-keeps : (state last : S) (lines : List (List ℕ)) → Kept state → whole_text name version meaning state lines ≡ Ok last → Kept last
   whole_text-keeps state last [] kept is = cc is
   whole_text-keeps state last (line ∷ lines) kept is = read_lines-keeps Kept (text_line name version meaning) text_line-keeps 1 state last (line ∷ lines) kept is
 
-  -- what the meaning of each line keeps holds behind a text, if it holds before
+  -- what the meaning of each line of words keeps holds behind a text, if it holds before
   pub text_state-keeps : (state last : S) (text : List ℕ) → Kept state → text_state name version meaning state text ≡ Ok last → Kept last
   text_state-keeps state last text kept is =
-      if_ok (nat_le (length text) most_bytes) _ _ last is (whole_text-keeps state last (lines_of text) kept) (λ e. cc e)
+      if_ok (nat_le (length text) most_bytes) _ _ last is (λ _ says. whole_text-keeps state last (lines_of text) kept says) (λ _ e. cc e)
 
 -- ---- a text that is too long
 

@@ -10,14 +10,14 @@ use Rattle.text_lines.specs.Words.{words_of}
 use Rattle.text_lines.proofs.LineLemmas.{slice_split-first_byte, slice_split-no_byte}
 
 -- whether a run has a byte
-abbrev has_byte : List ℕ → Bool
+abbrev pub has_byte : List ℕ → Bool
 has_byte run = nat_lt 0 (length run)
 
 has_byte-is : (run : List ℕ) → 0 < length run → has_byte run ≡ true
 has_byte-is run some = grind (arith, nat_tests)
 
 -- a run with a byte is kept
-filter-kept : (run : List ℕ) (runs : List (List ℕ)) → 0 < length run → filter has_byte (run ∷ runs) ≡ run ∷ filter has_byte runs
+pub filter-kept : (run : List ℕ) (runs : List (List ℕ)) → 0 < length run → filter has_byte (run ∷ runs) ≡ run ∷ filter has_byte runs
 filter-kept run runs some = rw (has_byte-is run some) refl
 
 -- a blank before it changes no word

@@ -3,6 +3,7 @@ pub mod Lines
 pub mod Words
 pub mod Number
 pub mod Hex
+pub mod Printed
 pub mod Cause
 pub mod Reading
 pub mod Refusals

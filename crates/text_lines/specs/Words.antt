@@ -1,10 +1,15 @@
 -- The words of a line.
-use Rattle.std.specs.Prelude.{ℕ, Bool, true, false, ◌&&◌, List, [], ◌∷◌, length, filter, ◌==◌, nat_lt, bytes_eq}
+use Rattle.std.specs.Prelude.{ℕ, ◌<◌, ◌≤◌, Bool, true, false, ◌&&◌, List, [], ◌∷◌, length, filter, All, ◌==◌, nat_lt, bytes_eq}
 use Rattle.std.specs.List.{slice_split}
 
 -- the longest runs of bytes other than the blank
 abbrev pub words_of : List ℕ → List (List ℕ)
 words_of line = filter (λ run. nat_lt 0 (length run)) (slice_split (λ byte. byte == 32) line)
+
+-- whether these bytes can be a word of a line: there is one, and each is from 33 to 126
+pub record IsWord (word : List ℕ) : Type 0 where
+  pub some : 0 < length word
+  pub visible : All (λ byte. (33 ≤ byte) × (byte ≤ 126)) word
 
 -- whether a word begins with this byte
 abbrev pub begins_with : ℕ → List ℕ → Bool

@@ -1,10 +1,14 @@
-// Hex words and byte words.
-ghost use Rattle.std.specs.Prelude.{◌≡◌, IfOk};
+// Hex words and byte words, read and printed.
+ghost use Rattle.std.specs.Prelude.{◌≡◌, ◌++◌, IfOk, OnOk, OnErr};
 ghost use Rattle.text_lines.specs.Hex.{hex_of, byte_of};
+ghost use Rattle.text_lines.specs.Printed.{printed_hex, printed_byte};
 
-use bq_model::{Bytes, OutOfMemory};
+use bq_model::{Bytes, OutOfMemory, Text};
 use hex::{FromHexError, decode, decode_to_slice};
 use std::alloc::Global;
+
+/// The hexadecimal digits in the case that is printed.
+const DIGITS: [u8; 16] = *b"0123456789abcdef";
 
 /// The bytes that a hex word is: `-` is no bytes, else each byte has two hexadecimal digits in either case. None
 /// where the word has another form.
@@ -33,4 +37,28 @@ pub fn byte_word(word: &[u8]) -> Option<u8>
         Ok(()) => Some(byte[0]),
         Err(_) => None,
     }
+}
+
+/// Appends the hex word of these bytes: `-` for none, else two digits in lower case for each. Where memory is lacking,
+/// a front of the word may stand there.
+pub fn append_hex_word(text: &mut Text, bytes: &[u8]) -> Result<(), OutOfMemory>
+    ensures { OnOk result (text.new ≡ text.old ++ printed_hex bytes.now) }
+{
+    if bytes.is_empty() {
+        return text.append_parts(&[b"-"]);
+    }
+    for byte in bytes {
+        append_byte_word(text, *byte)?;
+    }
+    Ok(())
+}
+
+/// Appends the byte word of this byte, in lower case. Where memory is lacking, the text stays.
+pub fn append_byte_word(text: &mut Text, byte: u8) -> Result<(), OutOfMemory>
+    ensures ok { OnOk result (text.new ≡ text.old ++ printed_byte byte) }
+    ensures err { OnErr result (text.new ≡ text.old) }
+{
+    let high = DIGITS[usize::from(byte / 16)];
+    let low = DIGITS[usize::from(byte % 16)];
+    text.append_parts(&[&[high, low]])
 }

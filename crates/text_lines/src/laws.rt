@@ -1,10 +1,14 @@
 // Laws above the definitions of `specs/`. Each is proved of all states and texts; the functions do nothing.
-ghost use Rattle.std.specs.Prelude.{◌≡◌, ◌≢◌, ℕ, ◌<◌, ◌≤◌, ◌++◌, ◌↔◌, List, [], Result, Err, length};
+ghost use Rattle.std.specs.Prelude.{◌≡◌, ◌≢◌, ℕ, ◌<◌, ◌≤◌, ◌^◌, ◌++◌, ◌↔◌, List, [], Result, Err, Some, All, length, map, decimal};
 ghost use Rattle.bq_model.specs.declared.fault.TextCause.{TextCause};
 ghost use Rattle.bq_model.specs.declared.fault.TextCause.TheVariants.{NoHeader, TooLong};
 ghost use Rattle.bq_model.specs.declared.fault.TextFault.{TextFault};
 ghost use Rattle.text_lines.specs.Cause.{both, causes, IsFirstCause};
 ghost use Rattle.text_lines.specs.Lines.{lines_of};
+ghost use Rattle.text_lines.specs.Words.{words_of, IsWord};
+ghost use Rattle.text_lines.specs.Number.{number_of};
+ghost use Rattle.text_lines.specs.Hex.{hex_of, byte_of};
+ghost use Rattle.text_lines.specs.Printed.{printed_lines, printed_hex, printed_byte};
 ghost use Rattle.text_lines.specs.Reading.{read_lines, text_line, text_state, fault, most_bytes, IsFirstFault};
 
 /// Where parts of a line have faults, the line's fault is the one that comes first in the order.
@@ -25,4 +29,13 @@ pub fn fault_of_a_text_is_that_of_its_first_faulty_line<S>()
     ensures text { (name version : List ℕ) (meaning : ℕ → S → List (List ℕ) → Result S TextCause) (state : S) (text : List ℕ) (found : TextFault)
         → length text ≤ most_bytes → text ≢ []
         → (text_state name version meaning state text ≡ Err found) ↔ IsFirstFault (text_line name version meaning) 1 state (lines_of text) found }
+{}
+
+/// Lines of words that are printed have these words, and a number, bytes or a byte that is printed as a word is that
+/// word's value.
+pub fn printed_words_are_read_back()
+    ensures lines { (lines : List (List (List ℕ))) → All (All IsWord) lines → map words_of (lines_of (printed_lines lines)) ≡ lines }
+    ensures number { (number : ℕ) → number < 2 ^ 64 → number_of (decimal number) ≡ Some number }
+    ensures hex { (bytes : List ℕ) → All (λ byte. byte < 256) bytes → hex_of (printed_hex bytes) ≡ Some bytes }
+    ensures byte { (byte : ℕ) → byte < 256 → byte_of (printed_byte byte) ≡ Some byte }
 {}

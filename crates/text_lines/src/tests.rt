@@ -1,10 +1,11 @@
 // Texts cut into lines and words, what single words are, and whole texts of a kind of their own.
 use crate::{
-    LineReader, LineRefused, Lines, Words, byte_word, fault_of_a_line_comes_first_in_the_order,
-    fault_of_a_text_is_that_of_its_first_faulty_line, first_of, hex_word, is_header,
-    is_passed_over, is_text, number, number_within, read_text,
+    LineReader, LineRefused, Lines, Words, append_byte_word, append_hex_word, byte_word,
+    fault_of_a_line_comes_first_in_the_order, fault_of_a_text_is_that_of_its_first_faulty_line,
+    first_of, hex_word, is_header, is_passed_over, is_text, number, number_within,
+    printed_words_are_read_back, read_text,
 };
-use bq_model::{OutOfMemory, TextCause, TextFault, TextRefused};
+use bq_model::{OutOfMemory, Text, TextCause, TextFault, TextRefused};
 use std::test::Fail;
 
 #[test]
@@ -131,6 +132,17 @@ fn hex_words_have_pairs_of_digits_in_either_case(rt: HostRuntime) -> Result<(), 
     for (word, wanted) in bytes {
         assert_eq!(rt; byte_word(word), wanted, "{word:?}");
     }
+    Ok(())
+}
+
+#[test]
+fn hex_words_are_printed_in_lower_case(rt: HostRuntime) -> Result<(), Fail> {
+    let mut text = Text::new(rt.alloc());
+    append_hex_word(&mut text, b"")?;
+    append_hex_word(&mut text, b"\x00\xff\x9a")?;
+    append_byte_word(&mut text, 0xb0)?;
+    assert_eq!(rt; text.as_slice(), b"-00ff9ab0".as_slice());
+    printed_words_are_read_back();
     Ok(())
 }
 
