@@ -1,0 +1,7 @@
+pub mod SizeLemmas
+pub mod PackingLemmas
+pub mod LayoutLemmas
+pub mod HomeLemmas
+pub mod OrderLemmas
+pub mod ContentLemmas
+pub mod MemoryLemmas
