@@ -1,0 +1,226 @@
+-- An enqueue links its row behind the last one.
+use Rattle.std.proofs.Common.{◌≡◌, ◌≢◌, ℕ, suc, ◌+◌, ◌<◌, ◌≤◌, Bool, true, false, cond, List, [], ◌∷◌, ◌++◌, length, sym, refl, ap, ◌∙◌, subst, arith, le_refl, length-append, Option, Some, None}
+use Rattle.std.proofs.lemmas.List.{append-nil}
+use mathlib.Core.Logic.{dite}
+use native.Mathlib.Decide.{ℕ_discrete}
+use Rattle.bq_model.specs.declared.op.Op.TheVariants.{Enq}
+use Rattle.bq_model.specs.declared.group.Group.{Group}
+use Rattle.bq_model.specs.Replay.{answers_from, queue_from}
+use Rattle.bq_model.specs.History.{last_queue}
+use Rattle.bq_model.proofs.Histories.{last_queue-push}
+use Rattle.word_rows.specs.declared.place.Place.{Place}
+use Rattle.word_rows.specs.declared.link_word.LinkWord.{LinkWord}
+use Rattle.word_rows.specs.declared.link_word.LinkWord.TheVariants.{Nil, Single, Chain, Shut}
+use Rattle.word_rows.specs.declared.location.Location.TheVariants.{Link}
+use Rattle.word_rows.specs.declared.content.Content.TheVariants.{OfLink}
+use Rattle.core_model.specs.declared.turn.Item.{Item}
+use Rattle.core_model.specs.declared.turn.Turn.TheVariants.{EnqTail, LinkSingle, EnqLast}
+use Rattle.core_model.specs.Functions.{put, run}
+use Rattle.core_model.specs.Lane.{Lane, item}
+use Rattle.core_model.specs.State.{Memory, Caller, State}
+use Rattle.core_model.specs.Step.{own_group, turned, step_with, step_at}
+use Rattle.core_model.specs.Facts.{Ghost, World, places, joint, Unlinked, LinkAt, On, linked, owns, holds_item, is_op, landed_is, Kept, Holds, Each, turn_facts, facts}
+use Rattle.core_model.specs.Lawful.{shown_queue, at, head_word, Listed, Headed, Tailed, OwnGroups, Lawful}
+use Rattle.core_model.proofs.Puts.{put_here, put_else, run_last, run_same}
+use Rattle.core_model.proofs.Groups.{mine-push_other}
+use Rattle.core_model.proofs.Stays.{world, Grows, owns_stays, kept_stays}
+use Rattle.core_model.proofs.Keeps.{known, quiet, keeps, changed, kept_turned, lands_proper, lands_operations, lands_mine}
+use Rattle.core_model.proofs.Loads.{is_last}
+
+module _ (z : Lane) (s : State) (L : Lawful z s) (c : ℕ) where
+  module _ (x : Item) (p : Place) (off : Holds z (world s L.ghost) c (landed_is false)) (op : Holds z (world s L.ghost) c (is_op (s.callers c).ops (Enq x.value)))
+      (o : Holds z (world s L.ghost) c (owns (s.callers c).taken x.row)) (full : Holds z (world s L.ghost) c (holds_item x))
+      (f : Holds z (world s L.ghost) c (linked p)) (seen : p.count ≤ z.first + L.ghost.tail) (nil : s.memory.link p.row ≡ Nil) where
+    abbrev G : Ghost
+    G = L.ghost
+
+    -- the last place, and the new one
+    abbrev e : ℕ
+    e = G.head + G.rest
+
+    abbrev n : ℕ
+    n = places G
+
+    abbrev path' : ℕ → ℕ
+    path' = put G.path (suc (G.head + G.rest)) x.row
+
+    abbrev chained' : ℕ → Bool
+    chained' = put G.chained (G.head + G.rest) false
+
+    abbrev spot' : ℕ → Option ℕ
+    spot' = put G.spot x.row (Some n)
+
+    abbrev link' : ℕ → LinkWord
+    link' = put s.memory.link p.row (Single x.row)
+
+    abbrev G' : Ghost
+    G' = record G { path = path'; chained = chained'; rest = suc G.rest; queued = suc G.queued; landed = put G.landed c true; spot = spot' }
+
+    abbrev k' : Caller
+    k' = turned (s.callers c) (EnqLast p x.row)
+
+    abbrev own : Group
+    own = own_group c (s.callers c)
+
+    abbrev memory' : Memory
+    memory' = record s.memory { link = link' }
+
+    abbrev W : World
+    W = record { memory = memory'; history = s.history ++ own ∷ []; ghost = G' }
+
+    end_is : f.0 ≡ e
+    end_is = is_last z s L c p f nil
+
+    row_is : p.row ≡ G.path e
+    row_is = sym f.2.2 ∙ ap G.path end_is
+
+    count_is : p.count ≡ z.first + e
+    count_is = f.1 ∙ ap (λ (i : ℕ). z.first + i) end_is
+
+    spot_is : G.spot p.row ≡ Some e
+    spot_is = f.2.1 ∙ ap Some end_is
+
+    -- a row at another place, or at none
+    not_end : (r i : ℕ) → G.spot r ≡ Some i → i ≢ e → r ≢ p.row
+    not_end r i at apart is = apart (same (sym at ∙ (ap G.spot is ∙ spot_is))) where
+      same : Some i ≡ Some e → i ≡ e
+      same y = cc y
+
+    off_end : (r : ℕ) → G.spot r ≡ None → r ≢ p.row
+    off_end r at is = nothing (sym at ∙ (ap G.spot is ∙ spot_is)) where
+      nothing : None ≡ Some e → ⊥
+      nothing y = cc y
+
+    placed : (r i : ℕ) → G.spot r ≡ Some i → r ≢ x.row
+    placed r i at is = nothing (sym o.0.unlinked ∙ (ap G.spot (sym is) ∙ at)) where
+      nothing : None ≡ Some i → ⊥
+      nothing y = cc y
+
+    old_path : (i : ℕ) → i < n → path' i ≡ G.path i
+    old_path i below = put_else G.path n x.row i (λ is. omega arith)
+
+    new_path : path' n ≡ x.row
+    new_path = put_here G.path n x.row
+
+    own_link : (r : ℕ) → Unlinked (world s G) r → link' r ≡ s.memory.link r
+    own_link r u = put_else s.memory.link p.row (Single x.row) r (off_end r u)
+
+    -- the row that was the last one is linked to the new one
+    end_link : (i r : ℕ) → i ≡ e → r ≡ p.row → link' r ≡ joint (chained' i) (path' (suc i))
+    end_link i r is at = (ap link' at ∙ put_here s.memory.link p.row (Single x.row))
+        ∙ sym (ap (λ (j : ℕ). joint (chained' j) (path' (suc j))) is ∙ (ap (λ (b : Bool). joint b (path' n)) (put_here G.chained e false) ∙ ap Single new_path))
+
+    -- and all others as they were
+    old_link : (i r : ℕ) → suc i < n → i ≢ e → G.spot r ≡ Some i → s.memory.link r ≡ joint (G.chained i) (G.path (suc i)) → link' r ≡ joint (chained' i) (path' (suc i))
+    old_link i r below apart at is = (put_else s.memory.link p.row (Single x.row) r (not_end r i at apart) ∙ is)
+        ∙ sym (ap (λ (b : Bool). joint b (path' (suc i))) (put_else G.chained e false i apart) ∙ ap (joint (G.chained i)) (old_path (suc i) below))
+
+    -- a fact of each place
+    each_place : (P : ℕ → ℕ → Type 0) (from : ℕ) → ((i : ℕ) → from ≤ i → i < n → P i (G.path i)) → P n x.row → (i : ℕ) → from ≤ i → i < places G' → P i (path' i)
+    each_place P from old new i above below = dite (ℕ_discrete i n) (λ is. subst (λ (j : ℕ). P j (path' j)) (sym is) (subst (P n) (sym new_path) new))
+        (λ apart. let below' : i < n = omega arith in subst (P i) (sym (old_path i below')) (old i above below'))
+
+    listed' : Listed z.rows link' path' chained' spot' G.head (suc G.rest)
+    listed' = record {
+      joined = λ i from below. dite (ℕ_discrete i e)
+          (λ is. end_link i (path' i) is (old_path i (omega arith) ∙ (ap G.path is ∙ sym row_is)))
+          (λ apart. old_link i (path' i) (omega arith) apart (ap G.spot (old_path i (omega arith)) ∙ L.rows.spots i from (omega arith)) (ap s.memory.link (old_path i (omega arith)) ∙ L.rows.joined i from (omega arith)));
+      last = let end : G.head + suc G.rest ≡ n = omega arith in ap (λ (i : ℕ). link' (path' i)) end ∙ (ap link' new_path ∙ (own_link x.row o.0.unlinked ∙ o.0.nil));
+      spots = λ i from below. each_place (λ i r. spot' r ≡ Some i) G.head (λ i from below. put_else G.spot x.row (Some n) (G.path i) (placed (G.path i) i (L.rows.spots i from below)) ∙ L.rows.spots i from below)
+          (put_here G.spot x.row (Some n)) i from below;
+      inside = λ i below. each_place (λ i r. r < z.rows) 0 (λ i _ below. L.rows.inside i below) o.0.inside i (omega arith) below;
+    }
+
+    headed' : Headed z.first s.memory.head path' G.head (suc G.rest) G.ann G.shown (suc G.queued)
+    headed' = record {
+      named = L.head.named ∙ named G.ann;
+      none = L.head.none;
+      fits = let fits = L.head.fits in omega arith;
+    } where
+      named : (a : Option ℕ) → head_word z.first G.path G.head a ≡ head_word z.first path' G.head a
+      named None = ap (λ (r : ℕ). Rattle.word_rows.specs.declared.head_word.HeadWord.TheVariants.Node (record { row = r; count = z.first + G.head })) (sym (old_path G.head (omega arith)))
+      named (Some a) = refl
+
+    tailed' : Tailed z.first s.memory.tail path' chained' G.head (suc G.rest) G.tail
+    tailed' = let a = L.tail.within in let b = L.tail.after_head in let late = seen in let here = count_is in record {
+      named = L.tail.named ∙ ap (λ (r : ℕ). record { row = r; count = z.first + G.tail }) (sym (old_path G.tail (omega arith)));
+      after_head = b;
+      within = omega arith;
+      lags = λ _. let same : G.tail ≡ e = omega arith in (ap chained' same ∙ put_here G.chained e false, omega arith);
+    }
+
+    queue' : last_queue (s.history ++ own ∷ []) ≡ shown_queue s.memory.value G'
+    queue' = last_queue-push s.history own ∙ (ap (queue_from (last_queue s.history)) op.0 ∙ (ap (λ (q : List ℕ). q ++ x.value ∷ [])
+        (L.queue ∙ run_same (λ i. s.memory.value (G.path i)) (λ i. s.memory.value (path' i)) (suc (G.head + G.shown)) G.queued (λ j from below. let fits = L.head.fits in ap s.memory.value (sym (old_path j (omega arith)))))
+        ∙ (ap (λ (v : ℕ). run (λ i. s.memory.value (path' i)) (suc (G.head + G.shown)) G.queued ++ v ∷ [])
+        (sym (ap (λ (i : ℕ). s.memory.value (path' i)) (let fits = L.head.fits in let new : suc (G.head + G.shown) + G.queued ≡ n = omega arith in new) ∙ (ap s.memory.value new_path ∙ full.1)))
+        ∙ sym (run_last (λ i. s.memory.value (path' i)) (suc (G.head + G.shown)) G.queued))))
+
+    linked_on : (i r : ℕ) → On (world s G) i r → LinkAt W i r
+    linked_on i r on = (
+      (λ is. let below = on.0 in absurd (omega arith)),
+      λ below. dite (ℕ_discrete i e)
+          (λ is. end_link i r is (sym on.2 ∙ (ap G.path is ∙ sym row_is)))
+          (λ apart. let inside = on.0 in old_link i r (omega arith) apart on.1 (on.3.1 (omega arith))),
+    )
+
+    grows : Grows (λ r. r ≡ x.row) (world s G) W
+    grows = record {
+      longer = omega arith;
+      heads = le_refl _;
+      tails = le_refl _;
+      path_same = old_path;
+      chained_same = λ i below. put_else G.chained e false i (λ is. omega arith);
+      spot_own = λ r u apart. put_else G.spot x.row (Some n) r apart ∙ u;
+      on_same = λ i r on. (put_else G.spot x.row (Some n) r (placed r i on.1) ∙ on.1, linked_on i r on);
+      link_own = λ r u _. own_link r u;
+      value_own = λ _ _ _. refl;
+      value_path = λ _ _ _. refl;
+      more = (own ∷ [], refl);
+    }
+
+    now : (s.callers c).started_at ≤ length s.history
+    now = (L.kept_facts c).1.0
+
+    kept' : Kept (s.history ++ own ∷ []) c k'
+    kept' = kept_turned (s.history ++ own ∷ []) c (s.callers c) (EnqLast p x.row) (kept_stays z (λ r. r ≡ x.row) (world s G) W grows c (s.callers c) (L.kept_facts c).1.1.0)
+
+    knows' : Each z W c (facts z c k')
+    knows' = (
+      (λ i from below known. owns_stays z (λ r. r ≡ x.row) (world s G) W grows c (item z c i) (o.1 i from) ((L.kept_facts c).0 i from below known)),
+      (
+        (let from = now in let total = length-append s.history (own ∷ []) in omega arith),
+        (
+          kept',
+          (
+            put_here G.landed c true,
+            (
+              ((let here = count_is in omega arith), o.0.inside, λ i is. let here = count_is in let same : i ≡ e = omega arith in (omega arith, ap (λ (y : ℕ). path' (suc y)) same ∙ new_path)),
+              (
+                (λ i is. let here = count_is in let same : i ≡ e = omega arith in (omega arith, ap chained' same ∙ put_here G.chained e false)),
+                ((record { before = s.history; behind = []; place = sym (append-nil (s.history ++ own ∷ [])); right = sym (ap (answers_from (last_queue s.history)) op.0) }, now), tt),
+              ),
+            ),
+          ),
+        ),
+      ),
+    )
+
+    groups' : OwnGroups c (s.history ++ own ∷ []) k' (put G.landed c true c)
+    groups' = lands_mine z s L c (Enq x.value) off op ∙ ap (λ (b : Bool). (s.callers c).mine ++ cond b (own ∷ []) []) (sym (put_here G.landed c true))
+
+    pub appended : Lawful z (changed s c memory' (own_group c (s.callers c) ∷ []) k')
+    appended = keeps z s L c memory' (own ∷ []) G' k' (λ r. r ≡ x.row) (λ r is. ap z.home is ∙ o.0.at_home) grows
+        (λ d apart. (put_else G.landed c true d apart, mine-push_other s.history own d apart))
+        (lands_proper z s L c (Enq x.value) off op) queue' listed' headed' tailed'
+        (let more = lands_operations z s L c (Enq x.value) off op in let was = L.counts in omega arith)
+        groups' (L.allowed c) knows'
+
+  link_single : (x : Item) (p : Place) (l : LinkWord) → s.memory.link p.row ≡ l → Each z (world s L.ghost) c (turn_facts z c (s.callers c) (LinkSingle x p)) → Lawful z (step_with s c (LinkSingle x p) (OfLink l))
+  link_single x p Nil is (off, (op, (o, (h, (on, (seen, rest)))))) = appended x p off op o h on seen is
+  link_single x p (Single r) is (off, (op, (o, (h, rest)))) = quiet z s L c (EnqTail x) (Link p.row) (OfLink (Single r)) (ap OfLink is) (off, (op, (o, (h, tt))))
+  link_single x p (Chain r) is (off, (op, (o, (h, rest)))) = quiet z s L c (EnqTail x) (Link p.row) (OfLink (Chain r)) (ap OfLink is) (off, (op, (o, (h, tt))))
+  link_single x p Shut is (off, (op, (o, (h, rest)))) = quiet z s L c (EnqTail x) (Link p.row) (OfLink Shut) (ap OfLink is) (off, (op, (o, (h, tt))))
+
+  pub keeps_link_single : (x : Item) (p : Place) → (s.callers c).turn ≡ LinkSingle x p → Lawful z (step_at s c (LinkSingle x p))
+  keeps_link_single x p is = link_single x p (s.memory.link p.row) refl (known z s L c (LinkSingle x p) is)

@@ -1,0 +1,81 @@
+-- What a lawful lane says of the commands that have ended.
+use Rattle.std.proofs.Common.{◌≡◌, ◌≢◌, ℕ, ◌+◌, ◌*◌, ◌^◌, ◌<◌, Bool, true, false, cond, List, [], ◌∷◌, ◌++◌, length, refl, sym, ap, ◌∙◌, subst, arith, Option, Some, None, IsSome, ltb, ◌↔◌}
+use Rattle.std.proofs.lemmas.List.{append-nil}
+use Rattle.std.proofs.lemmas.Bool.{ltb-true, ltb-false}
+use Rattle.bq_model.specs.declared.op.Op.{Op}
+use Rattle.bq_model.specs.declared.op.Op.TheVariants.{Enq, Deq}
+use Rattle.bq_model.specs.History.{operations}
+use Rattle.excess_count.specs.Excess.{enqueue_count}
+use Rattle.core_model.specs.Start.{begun, started, refused}
+use Rattle.bq_model.specs.declared.group.Group.{Group}
+use Rattle.bq_model.specs.Own.{mine}
+use Rattle.bq_model.specs.Proper.{IsProper}
+use Rattle.word_rows.specs.declared.place.Place.{Place}
+use Rattle.word_rows.specs.declared.head_word.HeadWord.TheVariants.{Node}
+use Rattle.core_model.specs.declared.turn.Turn.TheVariants.{Idle}
+use Rattle.core_model.specs.declared.turn.CallEnd.TheVariants.{Done}
+use Rattle.core_model.specs.Lane.{Lane}
+use Rattle.core_model.specs.State.{State}
+use Rattle.core_model.specs.Step.{own_group}
+use Rattle.core_model.specs.Facts.{numbered}
+use Rattle.core_model.specs.Lawful.{head_word, Lawful}
+use Rattle.core_model.specs.Once.{times}
+use Rattle.core_model.specs.Ended.{EndedDone}
+use Rattle.core_model.proofs.Counts.{stands_once}
+use Rattle.core_model.proofs.InRange.{all_within}
+use Rattle.core_model.proofs.Keeps.{known}
+
+module _ (z : Lane) (s : State) (L : Lawful z s) where
+  -- the groups of a caller that runs no command are those of its ended ones
+  pub idle_groups : (c : ℕ) → (s.callers c).turn ≡ Idle → mine s.history c ≡ (s.callers c).mine
+  idle_groups c idle = L.own_groups c ∙ (ap (λ (b : Bool). (s.callers c).mine ++ cond b (own_group c (s.callers c) ∷ []) []) (known z s L c Idle idle).0 ∙ append-nil (s.callers c).mine)
+
+  -- a command of an idle caller ends with Full at once exactly where its enqueues would be more than the item rows
+  pub full_exactly : (c : ℕ) (op : Op) → (s.callers c).turn ≡ Idle
+      → ((begun z (length s.history) c (s.callers c) op).turn ≡ Idle) ↔ (z.items < enqueue_count (operations (mine s.history c)) + enqueue_count (op ∷ []))
+  full_exactly c op idle = by op where
+    count : (s.callers c).taken ≡ enqueue_count (operations (mine s.history c)) + 0
+    count = (L.allowed c).rows ∙ (λ i. enqueue_count (operations (sym (idle_groups c idle) i)) + enqueue_count ((known z s L c Idle idle).1.0.0 i))
+
+    enq : (v : ℕ) (b : Bool) → ltb (s.callers c).taken z.items ≡ b → ((cond b (started z (length s.history) c (s.callers c) (Enq v)) (refused z (length s.history) c (s.callers c))).turn ≡ Idle) ↔ (z.items < enqueue_count (operations (mine s.history c)) + 1)
+    enq v true row = let below = ltb-true _ _ row in let n = count in (λ e. absurd (cc e), λ more. absurd (omega arith))
+    enq v false row = let above = ltb-false _ _ row in let n = count in (λ _. omega arith, λ _. idle)
+
+    by : (op : Op) → ((begun z (length s.history) c (s.callers c) op).turn ≡ Idle) ↔ (z.items < enqueue_count (operations (mine s.history c)) + enqueue_count (op ∷ []))
+    by (Enq v) = enq v (ltb (s.callers c).taken z.items) refl
+    by Deq = let most = (L.allowed c).has_rows in let n = count in (λ e. absurd (cc e), λ more. absurd (omega arith))
+
+  pub one_place : (before behind : List Group) (g : Group) → s.history ≡ (before ++ g ∷ []) ++ behind → times g s.history ≡ 1
+  one_place before behind g is = ap (times g) is ∙ stands_once z.callers before behind g (subst (IsProper z.callers) is L.history)
+
+  pub ended_done : (c : ℕ) → (s.callers c).turn ≡ Idle → (s.callers c).outcome ≡ Some Done → EndedDone s c
+  ended_done c idle done = let D = (L.kept_facts c).1.1.0.done done in let end = some (s.callers c).ended_at ((known z s L c Idle idle).1.0.1 (λ none. never (sym done ∙ none))) in record {
+    earlier = D.earlier;
+    ops = D.ops;
+    own_groups = idle_groups c idle ∙ D.last;
+    stands = D.stands;
+    once = one_place D.stands.before D.stands.behind (numbered c D.earlier D.ops) D.stands.place;
+    end = end.0;
+    ended = end.1;
+    after_start = (D.timely end.0 end.1).0;
+    before_end = (D.timely end.0 end.1).1;
+  } where
+    never : Some Done ≡ None → ⊥
+    never e = cc e
+
+    some : (o : Option ℕ) → IsSome o → (n : ℕ) × (o ≡ Some n)
+    some (Some n) is = (n, refl)
+    some None is = absurd (cc is)
+
+  pub no_answers : (c : ℕ) → (s.callers c).outcome ≢ Some Done → (s.callers c).answers ≡ []
+  no_answers c other = (L.kept_facts c).1.1.0.none other
+
+  module _ (fits : z.first + z.callers * z.allowance < 2 ^ 44) where
+    pub tail_fits : s.memory.tail.count < 2 ^ 44
+    tail_fits = let count = ap (λ (p : Place). p.count) L.tail.named in let within = L.tail.within in let made = L.counts in let all = all_within z s L in omega arith
+
+    pub head_fits : (p : Place) → s.memory.head ≡ Node p → p.count < 2 ^ 44
+    head_fits p is = by L.ghost.ann (sym is ∙ L.head.named) where
+      by : (a : Option ℕ) → Node p ≡ head_word z.first L.ghost.path L.ghost.head a → p.count < 2 ^ 44
+      by None e = let count = ap (λ (q : Place). q.count) (Rattle.core_model.proofs.Loads.same_node p _ e) in let made = L.counts in let all = all_within z s L in omega arith
+      by (Some a) e = absurd (cc e)

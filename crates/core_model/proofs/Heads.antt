@@ -1,0 +1,183 @@
+-- Dequeues: the head moves by one, or the queue is found empty.
+use Rattle.std.proofs.Common.{◌≡◌, ℕ, zero, suc, ◌+◌, ◌<◌, ◌≤◌, Bool, true, false, cond, List, [], ◌∷◌, ◌++◌, length, sym, refl, ap, ◌∙◌, subst, arith, le_refl, length-append, Some, None, IsSome}
+use Rattle.bq_model.specs.declared.op.Op.TheVariants.{Deq}
+use Rattle.bq_model.specs.declared.op.Answer.{Answer}
+use Rattle.bq_model.specs.declared.op.Answer.TheVariants.{Got, Empty}
+use Rattle.bq_model.specs.declared.group.Group.{Group}
+use Rattle.bq_model.specs.Replay.{answers_from, queue_from}
+use Rattle.bq_model.specs.History.{last_queue}
+use Rattle.bq_model.proofs.Histories.{last_queue-push}
+use Rattle.word_rows.specs.declared.place.Place.{Place}
+use Rattle.word_rows.specs.declared.head_word.HeadWord.{HeadWord}
+use Rattle.word_rows.specs.declared.head_word.HeadWord.TheVariants.{Node, Ann}
+use Rattle.word_rows.specs.declared.link_word.LinkWord.{LinkWord}
+use Rattle.word_rows.specs.declared.link_word.LinkWord.TheVariants.{Nil, Single, Chain, Shut}
+use Rattle.word_rows.specs.declared.location.Location.TheVariants.{Head, Link}
+use Rattle.word_rows.specs.declared.content.Content.TheVariants.{OfHead, OfLink}
+use Rattle.core_model.specs.declared.turn.Turn.TheVariants.{DeqHead, DeqLink, MoveHead}
+use Rattle.core_model.specs.declared.course.Course.TheVariants.{GoesOn, Ends}
+use Rattle.core_model.specs.Functions.{run}
+use Rattle.core_model.specs.Lane.{Lane, item}
+use Rattle.core_model.specs.State.{Memory, Caller, State, write}
+use Rattle.core_model.specs.Step.{is_node, behind, own_group, ended, followed, step_with, step_at}
+use Rattle.core_model.specs.Facts.{Ghost, World, next_is, next_value, landed_is, is_op, Kept, Holds, Each, turn_facts, facts}
+use Rattle.core_model.specs.Lawful.{shown_queue, at, head_word, Listed, Headed, Tailed, Lawful}
+use Rattle.core_model.proofs.Groups.{mine-push_other}
+use Rattle.core_model.proofs.Stays.{world, Grows, owns_stays}
+use Rattle.core_model.proofs.Keeps.{known, quiet, keeps, changed, same_places, write_read, grows_history, allowed_end, lands_proper, lands_operations, lands_groups, lands_kept}
+use Rattle.core_model.proofs.Loads.{node_found, is_last, deq_single, deq_chain, deq_shut}
+
+module _ (z : Lane) (s : State) (L : Lawful z s) (c : ℕ) where
+  abbrev G : Ghost
+  G = L.ghost
+
+  abbrev own : Group
+  own = own_group c (s.callers c)
+
+  abbrev last : List Answer → Caller
+  last xs = ended (length (s.history ++ own_group c (s.callers c) ∷ [])) c (s.callers c) xs
+
+  -- what the caller of a dequeue knows as it ends
+  rest_facts : (w : World) (xs : List Answer) → (grows : Grows (λ _. ⊥) (world s L.ghost) w) → w.ghost.landed c ≡ false → (s.callers c).started_at ≤ length w.history
+      → Kept w.history c (last xs) → Each z w c (facts z c (last xs))
+  rest_facts w xs grows off since kept = let f = L.kept_facts c in
+      ((λ i from below known. let o = f.0 i from below known in owns_stays z (λ _. ⊥) (world s L.ghost) w grows c (item z c i) (λ x. x) o), (since, (kept, (off, ((refl, λ _. some), tt))))) where
+        some : IsSome (Some (length (s.history ++ own ∷ [])))
+        some = refl
+
+  since_end : (s.callers c).started_at ≤ length (s.history ++ own_group c (s.callers c) ∷ [])
+  since_end = let from = (L.kept_facts c).1.0 in let total = length-append s.history (own ∷ []) in omega arith
+
+  module _ (p : Place) (n v : ℕ) (off : Holds z (world s L.ghost) c (landed_is false)) (op : Holds z (world s L.ghost) c (is_op (s.callers c).ops Deq)) (next : Holds z (world s L.ghost) c (next_is p n))
+      (past : p.count < z.first + L.ghost.tail) (val : Holds z (world s L.ghost) c (next_value p v)) (head : s.memory.head ≡ Node p) where
+    count_is : p.count ≡ z.first + G.head
+    count_is = ap (λ (q : Place). q.count) (node_found z s L c p head).1
+
+    no_ann : G.ann ≡ None
+    no_ann = (node_found z s L c p head).0
+
+    -- nothing lies between the dummy and the shown head
+    bare : G.shown ≡ 0
+    bare = L.head.none no_ann
+
+    all_queued : G.queued ≡ G.rest
+    all_queued = let b = bare in let fits = L.head.fits in omega arith
+
+    -- the rows behind the new dummy
+    fewer : (k : ℕ) × (suc k ≡ G.rest)
+    fewer = pred G.rest (val.1 count_is).0 where
+      pred : (k : ℕ) → 0 < k → (j : ℕ) × (suc j ≡ k)
+      pred zero l = absurd (omega arith)
+      pred (suc k) l = (k, refl)
+
+    abbrev G' : Ghost
+    G' = record G { head = suc G.head; rest = fewer.0; queued = fewer.0 }
+
+    abbrev memory' : Memory
+    memory' = record s.memory { head = Node (behind p n) }
+
+    abbrev W : World
+    W = record { memory = memory'; history = s.history ++ own ∷ []; ghost = G' }
+
+    same_end : suc G.head + fewer.0 ≡ G.head + G.rest
+    same_end = let e = fewer.1 in omega arith
+
+    grows : Grows (λ _. ⊥) (world s G) W
+    grows = let e = same_end in record {
+      longer = omega arith;
+      heads = omega arith;
+      tails = le_refl _;
+      path_same = λ _ _. refl;
+      chained_same = λ _ _. refl;
+      spot_own = λ _ u _. u;
+      on_same = λ i r on. (on.1, ((λ x. on.3.0 (omega arith)), λ x. on.3.1 (omega arith)));
+      link_own = λ _ _ _. refl;
+      value_own = λ _ _ _. refl;
+      value_path = λ _ _ _. refl;
+      more = (own ∷ [], refl);
+    }
+
+    -- the queue before, and what it leaves
+    queue_was : last_queue s.history ≡ v ∷ run (λ i. s.memory.value (G.path i)) (suc (suc G.head)) fewer.0
+    queue_was = L.queue ∙ ((λ i. run (λ j. s.memory.value (G.path j)) (suc (G.head + bare i)) ((all_queued ∙ sym fewer.1) i))
+        ∙ (ap (λ (j : ℕ). run (λ j. s.memory.value (G.path j)) (suc j) (suc fewer.0)) (let e : G.head + 0 ≡ G.head = omega arith in e) ∙ ap (λ (y : ℕ). y ∷ run (λ i. s.memory.value (G.path i)) (suc (suc G.head)) fewer.0) (val.1 count_is).1))
+
+    queue' : last_queue (s.history ++ own ∷ []) ≡ shown_queue s.memory.value G'
+    queue' = last_queue-push s.history own ∙ (ap (queue_from (last_queue s.history)) op.0 ∙ (ap (λ (q : List ℕ). queue_from q (Deq ∷ [])) queue_was
+        ∙ ap (λ (j : ℕ). run (λ i. s.memory.value (G.path i)) (suc j) fewer.0) (let b = bare in let e : suc G.head ≡ suc G.head + G.shown = omega arith in e)))
+
+    right : Got v ∷ [] ≡ answers_from (last_queue s.history) (Deq ∷ [])
+    right = ap (λ (q : List ℕ). answers_from q (Deq ∷ [])) (sym queue_was)
+
+    listed' : Listed z.rows s.memory.link G.path G.chained G.spot (suc G.head) fewer.0
+    listed' = let e = same_end in record {
+      joined = λ i from below. L.rows.joined i (omega arith) (omega arith);
+      last = ap (λ (i : ℕ). s.memory.link (G.path i)) e ∙ L.rows.last;
+      spots = λ i from below. L.rows.spots i (omega arith) (omega arith);
+      inside = λ i below. L.rows.inside i (omega arith);
+    }
+
+    headed' : Headed z.first (Node (behind p n)) G.path (suc G.head) fewer.0 G.ann G.shown fewer.0
+    headed' = let b = bare in record {
+      named = named ∙ ap (head_word z.first G.path (suc G.head)) (sym no_ann);
+      none = λ _. bare;
+      fits = omega arith;
+    } where
+      named : Node (behind p n) ≡ Node (at z.first G.path (suc G.head))
+      named = let cnt = count_is in λ i. Node (record { row = sym (next.2 G.head count_is).1 i; count = (let y : p.count + 1 ≡ z.first + suc G.head = omega arith in y) i })
+
+    tailed' : Tailed z.first s.memory.tail G.path G.chained (suc G.head) fewer.0 G.tail
+    tailed' = let e = same_end in let cnt = count_is in let a = L.tail.within in let w = past in record {
+      named = L.tail.named;
+      after_head = omega arith;
+      within = omega arith;
+      lags = λ below. let b = L.tail.lags (omega arith) in let b1 = b.1 in (b.0, omega arith);
+    }
+
+    pub moved : Lawful z (changed s c memory' (own_group c (s.callers c) ∷ []) (last (Got v ∷ [])))
+    moved = keeps z s L c memory' (own ∷ []) G' (last (Got v ∷ [])) (λ _. ⊥) (λ _ x. absurd x) grows (λ d apart. (refl, mine-push_other s.history own d apart))
+        (lands_proper z s L c Deq off op) queue' listed' headed' tailed'
+        (let e = same_end in let more = lands_operations z s L c Deq off op in let was = L.counts in omega arith)
+        (lands_groups z s L c Deq off op (Got v ∷ []) right)
+        (allowed_end z c (s.callers c) (L.allowed c))
+        (rest_facts W (Got v ∷ []) grows off since_end (lands_kept z s L c Deq off op (Got v ∷ []) right))
+
+  move_head : (p : Place) (n v : ℕ) (x : HeadWord) → s.memory.head ≡ x → (b : Bool) → is_node x p ≡ b → Each z (world s L.ghost) c (turn_facts z c (s.callers c) (MoveHead p n v))
+      → Lawful z (changed s c (write s.memory Head (cond b (OfHead (Node (behind p n))) (OfHead x))) (cond b (own ∷ []) [])
+      (followed (length (s.history ++ cond b (own ∷ []) [])) c (s.callers c) (cond b (Ends (Got v)) (GoesOn DeqHead))))
+  move_head p n v x is false apart f = quiet z s L c DeqHead Head (OfHead x) (ap OfHead is) (f.0, (f.1.0, tt))
+  move_head p n v (Node q) is true same f = moved p n v f.0 f.1.0 f.1.1.0 f.1.1.1.0 f.1.1.1.1.0 (is ∙ ap Node (same_places q p same))
+  move_head p n v (Ann a m) is true same f = absurd (cc same)
+
+  pub keeps_move_head : (p : Place) (n v : ℕ) → (s.callers c).turn ≡ MoveHead p n v → Lawful z (step_at s c (MoveHead p n v))
+  keeps_move_head p n v is = move_head p n v s.memory.head refl (is_node s.memory.head p) refl (known z s L c (MoveHead p n v) is)
+
+  -- the queue is empty: the command lands and ends
+  empty : (p : Place) → s.memory.link p.row ≡ Nil → Each z (world s L.ghost) c (turn_facts z c (s.callers c) (DeqLink p)) → Lawful z (step_with s c (DeqLink p) (OfLink Nil))
+  empty p nil (off, (op, (f, (seen, rest)))) = subst (λ (m : Memory). Lawful z (changed s c m (own ∷ []) (last (Empty ∷ [])))) (sym (ap (write s.memory (Link p.row)) (ap OfLink (sym nil)) ∙ write_read s.memory (Link p.row)))
+      (keeps z s L c s.memory (own ∷ []) G (last (Empty ∷ [])) (λ _. ⊥) (λ _ x. absurd x) grows (λ d apart. (refl, mine-push_other s.history own d apart))
+      (lands_proper z s L c Deq off op) queue' L.rows L.head L.tail
+      (let more = lands_operations z s L c Deq off op in let was = L.counts in omega arith)
+      (lands_groups z s L c Deq off op (Empty ∷ []) right)
+      (allowed_end z c (s.callers c) (L.allowed c))
+      (rest_facts (record { memory = s.memory; history = s.history ++ own ∷ []; ghost = G }) (Empty ∷ []) grows off since_end (lands_kept z s L c Deq off op (Empty ∷ []) right))) where
+        grows : Grows (λ _. ⊥) (world s G) record { memory = s.memory; history = s.history ++ own ∷ []; ghost = G }
+        grows = grows_history s G G.landed (own ∷ [])
+
+        none : last_queue s.history ≡ []
+        none = let end = is_last z s L c p f nil in let seen' = seen in let count = f.1 in let fits = L.head.fits in L.queue ∙ ap (run (λ i. s.memory.value (G.path i)) (suc (G.head + G.shown))) (let e : G.queued ≡ 0 = omega arith in e)
+
+        queue' : last_queue (s.history ++ own ∷ []) ≡ shown_queue s.memory.value G
+        queue' = last_queue-push s.history own ∙ (ap (queue_from (last_queue s.history)) op.0 ∙ (ap (λ (q : List ℕ). queue_from q (Deq ∷ [])) none ∙ (sym none ∙ L.queue)))
+
+        right : Empty ∷ [] ≡ answers_from (last_queue s.history) (Deq ∷ [])
+        right = ap (λ (q : List ℕ). answers_from q (Deq ∷ [])) (sym none)
+
+  deq_link : (p : Place) (x : LinkWord) → s.memory.link p.row ≡ x → Each z (world s L.ghost) c (turn_facts z c (s.callers c) (DeqLink p)) → Lawful z (step_with s c (DeqLink p) (OfLink x))
+  deq_link p Nil is f = empty p is f
+  deq_link p (Single n) is f = deq_single z s L c p n is f
+  deq_link p (Chain n) is f = deq_chain z s L c p n is f
+  deq_link p Shut is f = deq_shut z s L c p is f
+
+  pub keeps_deq_link : (p : Place) → (s.callers c).turn ≡ DeqLink p → Lawful z (step_at s c (DeqLink p))
+  keeps_deq_link p is = deq_link p (s.memory.link p.row) refl (known z s L c (DeqLink p) is)

@@ -1,0 +1,62 @@
+-- An empty lane is lawful.
+use Rattle.std.proofs.Common.{◌≡◌, ◌≢◌, ℕ, suc, ◌+◌, ◌*◌, ◌-◌, ◌/◌, ◌<◌, ◌≤◌, eqb, Bool, false, [], cond, refl, ap, ◌∙◌, arith, ne_eqb, le_refl, mul-le-mul_right, Some, None}
+use Rattle.std.proofs.lemmas.Nat.{div-mul-add}
+use Rattle.std.proofs.lemmas.List.Elements.{All-nil}
+use Rattle.bq_model.specs.declared.group.Group.{Group}
+use Rattle.bq_model.specs.declared.shape.Shape.{Shape}
+use Rattle.word_rows.specs.declared.head_word.HeadWord.TheVariants.{Node}
+use Rattle.word_rows.specs.Sizes.{items_of, own_rows_of}
+use Rattle.core_model.specs.declared.turn.CallEnd.TheVariants.{Done}
+use Rattle.core_model.specs.Lane.{item, lane_of}
+use Rattle.core_model.specs.Start.{opening}
+use Rattle.core_model.specs.Facts.{Ghost, Owns}
+use Rattle.core_model.specs.Lawful.{Lawful}
+use Rattle.core_model.proofs.Stays.{world}
+
+abbrev first_ghost : Ghost
+first_ghost = record { path = λ _. 0; chained = λ _. false; spot = λ r. cond (eqb r 0) (Some 0) None; head = 0; rest = 0; tail = 0; ann = None; shown = 0; queued = 0; landed = λ _. false }
+
+-- the i-th of w rows of caller c, of n callers
+row_inside : (n w c i : ℕ) → i < w → c < n → 1 + c * w + i < 1 + n * w
+row_inside n w c i below known = let most : suc c * w ≤ n * w = mul-le-mul_right w known in let e : suc c * w ≡ c * w + w = omega (arith, Rattle.std.proofs.Math.Nat.suc-mul c w) in omega arith
+
+row_home : (w c i : ℕ) → i < w → (1 + c * w + i - 1) / w ≡ c
+row_home w c i below = ap (λ (n : ℕ). n / w) (let e : 1 + c * w + i - 1 ≡ c * w + i = omega arith in e) ∙ div-mul-add c w i below
+
+pub opens : (z : Shape) → Lawful (lane_of z) (opening (lane_of z))
+opens z = record {
+  ghost = first_ghost;
+  history = record { known = All-nil (λ (g : Group). g.caller < z.callers); filled = All-nil (λ (g : Group). g.ops ≢ []); numbered = λ _. refl };
+  queue = refl;
+  rows = record {
+    joined = λ i _ below. absurd (omega arith);
+    last = refl;
+    spots = λ i _ below. ap Some (let e : 0 ≡ i = omega arith in e);
+    inside = λ i _. omega arith;
+  };
+  head = record {
+    named = λ i. Node (record { row = 0; count = (let e : z.first_count ≡ z.first_count + 0 = omega arith in e) i });
+    none = λ _. refl;
+    fits = refl;
+  };
+  tail = record {
+    named = λ i. record { row = 0; count = (let e : z.first_count ≡ z.first_count + 0 = omega arith in e) i };
+    after_head = le_refl _;
+    within = le_refl _;
+    lags = λ below. absurd (omega arith);
+  };
+  counts = le_refl _;
+  own_groups = λ _. refl;
+  allowed = λ _. record { within = omega arith; rows = refl; has_rows = omega arith };
+  kept_facts = λ c. ((λ i _ below known. unused c i below known), (le_refl _, (record { none = λ _. refl; done = λ is. absurd (never is) }, (refl, ((refl, λ some. absurd (some refl)), tt)))));
+} where
+  never : None ≡ Some Done → ⊥
+  never e = cc e
+
+  unused : (c i : ℕ) → i < items_of z → c < z.callers → Owns (lane_of z) (world (opening (lane_of z)) first_ghost) c (item (lane_of z) c i)
+  unused c i below known = let own : i < own_rows_of z = omega arith in record {
+    at_home = row_home (own_rows_of z) c i own;
+    inside = row_inside z.callers (own_rows_of z) c i own known;
+    unlinked = ap (λ (b : Bool). cond b (Some 0) None) (ne_eqb (1 + c * own_rows_of z + i) 0 (λ e. omega arith));
+    nil = refl;
+  }

@@ -1,0 +1,88 @@
+-- An enqueue stores its value into a row that it took.
+use Rattle.std.proofs.Common.{◌≡◌, ℕ, suc, ◌+◌, ◌<◌, ◌≤◌, false, List, [], ◌++◌, length, sym, refl, ap, ◌∙◌, subst, arith, le_refl, Some, None}
+use Rattle.std.proofs.lemmas.List.{append-nil}
+use Rattle.bq_model.specs.declared.op.Op.TheVariants.{Enq}
+use Rattle.bq_model.specs.declared.group.Group.{Group}
+use Rattle.bq_model.specs.History.{operations, last_queue}
+use Rattle.bq_model.specs.Own.{mine}
+use Rattle.bq_model.specs.Proper.{IsProper}
+use Rattle.core_model.specs.declared.turn.Item.{Item}
+use Rattle.core_model.specs.declared.turn.Turn.TheVariants.{StoreValue, EnqTail}
+use Rattle.core_model.specs.Functions.{put, run}
+use Rattle.core_model.specs.Lane.{Lane, item}
+use Rattle.core_model.specs.State.{Memory, Caller, State}
+use Rattle.core_model.specs.Step.{turned, step_at}
+use Rattle.core_model.specs.Facts.{Ghost, World, places, owns, is_op, landed_is, Kept, Owns, Holds}
+use Rattle.core_model.specs.Lawful.{Lawful}
+use Rattle.core_model.proofs.Puts.{put_here, put_else, run_same}
+use Rattle.core_model.proofs.Stays.{world, Grows, owns_stays}
+use Rattle.core_model.proofs.Keeps.{known, keeps, changed, kept_turned}
+
+module _ (z : Lane) (s : State) (L : Lawful z s) (c : ℕ) (x : Item) (off : Holds z (world s L.ghost) c (landed_is false)) (op : Holds z (world s L.ghost) c (is_op (s.callers c).ops (Enq x.value)))
+    (own : Holds z (world s L.ghost) c (owns (s.callers c).taken x.row)) where
+  abbrev G : Ghost
+  G = L.ghost
+
+  abbrev value' : ℕ → ℕ
+  value' = put s.memory.value x.row x.value
+
+  abbrev memory' : Memory
+  memory' = record s.memory { value = value' }
+
+  abbrev k' : Caller
+  k' = turned (s.callers c) (EnqTail x)
+
+  abbrev W : World
+  W = record { memory = memory'; history = s.history ++ []; ghost = G }
+
+  -- the row is not of the list
+  on_path : (i : ℕ) → G.head ≤ i → i < places G → value' (G.path i) ≡ s.memory.value (G.path i)
+  on_path i from below = put_else s.memory.value x.row x.value (G.path i) (λ e. nothing (sym own.0.unlinked ∙ (ap G.spot (sym e) ∙ L.rows.spots i from below))) where
+    nothing : {i : ℕ} → None ≡ Some i → ⊥
+    nothing e = cc e
+
+  grows : Grows (λ r. r ≡ x.row) (world s G) W
+  grows = record {
+    longer = le_refl _;
+    heads = le_refl _;
+    tails = le_refl _;
+    path_same = λ _ _. refl;
+    chained_same = λ _ _. refl;
+    spot_own = λ _ u _. u;
+    on_same = λ i r on. (on.1, on.3);
+    link_own = λ _ _ _. refl;
+    value_own = λ r _ apart. put_else s.memory.value x.row x.value r apart;
+    value_path = on_path;
+    more = ([], refl);
+  }
+
+  -- the history is as it was
+  still : (P : List Group → Type 0) → P s.history → P (s.history ++ [])
+  still P p = subst P (sym (append-nil s.history)) p
+
+  row : Owns z W c x.row
+  row = record { at_home = own.0.at_home; inside = own.0.inside; unlinked = own.0.unlinked; nil = own.0.nil }
+
+  pub value_stored : Lawful z (changed s c memory' [] k')
+  value_stored = keeps z s L c memory' [] G k' (λ r. r ≡ x.row) (λ r e. ap z.home e ∙ own.0.at_home) grows
+      (λ d _. (refl, ap (λ (h : List Group). mine h d) (append-nil s.history)))
+      (still (IsProper z.callers) L.history)
+      (still (λ h. last_queue h ≡ run (λ i. value' (G.path i)) (suc (G.head + G.shown)) G.queued)
+      (L.queue ∙ run_same (λ i. s.memory.value (G.path i)) (λ i. value' (G.path i)) (suc (G.head + G.shown)) G.queued (λ j from below. let fits = L.head.fits in sym (on_path j (omega arith) (omega arith)))))
+      L.rows L.head L.tail
+      (still (λ h. G.head + G.rest ≤ length (operations h)) L.counts)
+      (ap (λ (h : List Group). mine h c) (append-nil s.history) ∙ L.own_groups c)
+      (L.allowed c)
+      (let f = L.kept_facts c in (
+        (λ i from below at. owns_stays z (λ r. r ≡ x.row) (world s G) W grows c (item z c i) (own.1 i from) (f.0 i from below at)),
+        (
+          still (λ h. (s.callers c).started_at ≤ length h) f.1.0,
+          (
+            still (λ h. Kept h c k') (kept_turned s.history c (s.callers c) (EnqTail x) f.1.1.0),
+            (off, (op, ((row, own.1), ((row, put_here s.memory.value x.row x.value), tt)))),
+          ),
+        ),
+      ))
+
+pub keeps_store_value : (z : Lane) (s : State) (L : Lawful z s) (c : ℕ) (x : Item) → (s.callers c).turn ≡ StoreValue x → Lawful z (step_at s c (StoreValue x))
+keeps_store_value z s L c x is = let f = known z s L c (StoreValue x) is in value_stored z s L c x f.0 f.1.0 f.1.1.0

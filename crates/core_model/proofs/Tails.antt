@@ -1,0 +1,93 @@
+-- The tail moves by one over a Single link.
+use Rattle.std.proofs.Common.{◌≡◌, ℕ, suc, ◌+◌, Bool, true, false, cond, List, [], ◌∷◌, length, sym, refl, ap, ◌∙◌, subst, arith, le_refl}
+use Rattle.std.proofs.lemmas.List.{append-nil}
+use Rattle.bq_model.specs.declared.op.Answer.TheVariants.{Done}
+use Rattle.bq_model.specs.declared.group.Group.{Group}
+use Rattle.word_rows.specs.declared.place.Place.{Place}
+use Rattle.word_rows.specs.declared.location.Location.TheVariants.{Tail}
+use Rattle.word_rows.specs.declared.content.Content.TheVariants.{OfTail}
+use Rattle.core_model.specs.declared.turn.Item.{Item}
+use Rattle.core_model.specs.declared.turn.Turn.TheVariants.{EnqTail, EnqPass, EnqLast, DeqHead, DeqPass}
+use Rattle.core_model.specs.Functions.{put}
+use Rattle.core_model.specs.Lane.{Lane}
+use Rattle.core_model.specs.State.{Memory, Caller, State, write}
+use Rattle.core_model.specs.Step.{turned, ended, same_place, behind, step_at}
+use Rattle.core_model.specs.Facts.{Ghost, World, next_is, by_single, Holds, facts}
+use Rattle.core_model.specs.Lawful.{Lawful}
+use Rattle.core_model.proofs.Stays.{world, Grows, all_stay}
+use Rattle.core_model.proofs.Keeps.{known, turns, finishes, changed, same_places}
+
+module _ (z : Lane) (s : State) (L : Lawful z s) (c : ℕ) where
+  abbrev G : Ghost
+  G = L.ghost
+
+  -- the tail alone moves
+  pub advances : (p : Place) (n : ℕ) → Holds z (world s L.ghost) c (next_is p n) → Holds z (world s L.ghost) c (by_single p) → s.memory.tail ≡ p
+      → Lawful z record { memory = record s.memory { tail = behind p n }; history = s.history; callers = s.callers }
+  advances p n next single is = record {
+    ghost = G';
+    history = L.history;
+    queue = L.queue;
+    rows = L.rows;
+    head = L.head;
+    tail = let inside = (next.2 G.tail count).0 in let from = L.tail.after_head in let lags = (L.tail.lags (omega arith)).1 in let here = count in record {
+      named = λ i. record { row = sym (next.2 G.tail count).1 i; count = (let y : p.count + 1 ≡ z.first + suc G.tail = omega arith in y) i };
+      after_head = omega arith;
+      within = omega arith;
+      lags = λ below. absurd (omega arith);
+    };
+    counts = L.counts;
+    own_groups = L.own_groups;
+    allowed = L.allowed;
+    kept_facts = λ d. all_stay z (λ _. ⊥) (world s G) W grows d (λ _ _ x. x) refl (facts z d (s.callers d)) (L.kept_facts d);
+  } where
+    count : p.count ≡ z.first + G.tail
+    count = ap (λ (q : Place). q.count) (sym is ∙ L.tail.named)
+
+    G' : Ghost
+    G' = record G { tail = suc G.tail }
+
+    W : World
+    W = record { memory = record s.memory { tail = behind p n }; history = s.history; ghost = G' }
+
+    grows : Grows (λ _. ⊥) (world s G) W
+    grows = record {
+      longer = le_refl _;
+      heads = le_refl _;
+      tails = omega arith;
+      path_same = λ _ _. refl;
+      chained_same = λ _ _. refl;
+      spot_own = λ _ u _. u;
+      on_same = λ i r on. (on.1, on.3);
+      link_own = λ _ _ _. refl;
+      value_own = λ _ _ _. refl;
+      value_path = λ _ _ _. refl;
+      more = ([], sym (append-nil s.history));
+    }
+
+  abbrev with_memory : Memory → State
+  with_memory memory = record { memory = memory; history = s.history; callers = s.callers }
+
+  -- an exchange of the tail, whatever it found, after which the caller goes on as k
+  exchanges : (p : Place) (n : ℕ) (k : Caller) → Holds z (world s L.ghost) c (next_is p n) → Holds z (world s L.ghost) c (by_single p)
+      → ((memory : Memory) → Lawful z (with_memory memory) → Lawful z record { memory = memory; history = s.history; callers = put s.callers c k })
+      → (b : Bool) → same_place s.memory.tail p ≡ b
+      → Lawful z (changed s c (write s.memory Tail (cond b (OfTail (behind p n)) (OfTail s.memory.tail))) [] k)
+  exchanges p n k next single goes true is = subst (λ (h : List Group). Lawful z record { memory = record s.memory { tail = behind p n }; history = h; callers = put s.callers c k }) (sym (append-nil s.history))
+      (goes (record s.memory { tail = behind p n }) (advances p n next single (same_places s.memory.tail p is)))
+  exchanges p n k next single goes false is = subst (λ (h : List Group). Lawful z record { memory = s.memory; history = h; callers = put s.callers c k }) (sym (append-nil s.history)) (goes s.memory L)
+
+  pub keeps_enq_pass : (x : Item) (p : Place) (n : ℕ) → (s.callers c).turn ≡ EnqPass x p n → Lawful z (step_at s c (EnqPass x p n))
+  keeps_enq_pass x p n is = let f = known z s L c (EnqPass x p n) is in exchanges p n (turned (s.callers c) (EnqTail x)) f.1.1.1.1.0 f.1.1.1.1.1.0
+      (λ memory l. let h = known z (with_memory memory) l c (EnqPass x p n) is in turns z (with_memory memory) l c (EnqTail x) (h.0, (h.1.0, (h.1.1.0, (h.1.1.1.0, tt))))) (same_place s.memory.tail p) refl
+
+  pub keeps_deq_pass : (p : Place) (n : ℕ) → (s.callers c).turn ≡ DeqPass p n → Lawful z (step_at s c (DeqPass p n))
+  keeps_deq_pass p n is = let f = known z s L c (DeqPass p n) is in exchanges p n (turned (s.callers c) DeqHead) f.1.1.0 f.1.1.1.0
+      (λ memory l. let h = known z (with_memory memory) l c (DeqPass p n) is in turns z (with_memory memory) l c DeqHead (h.0, (h.1.0, tt))) (same_place s.memory.tail p) refl
+
+  -- the enqueue is done, as the history was
+  pub keeps_enq_last : (p : Place) (n : ℕ) → (s.callers c).turn ≡ EnqLast p n → Lawful z (step_at s c (EnqLast p n))
+  keeps_enq_last p n is = let f = known z s L c (EnqLast p n) is in subst (λ (m : ℕ). Lawful z (changed s c (write s.memory Tail (cond (same_place s.memory.tail p) (OfTail (behind p n)) (OfTail s.memory.tail))) [] (ended m c (s.callers c) (Done ∷ []))))
+      (ap length (sym (append-nil s.history)))
+      (exchanges p n (ended (length s.history) c (s.callers c) (Done ∷ [])) f.1.0 f.1.1.0
+      (λ memory l. let h = known z (with_memory memory) l c (EnqLast p n) is in let a = h.1.1.1.0 in finishes z (with_memory memory) l c (Done ∷ []) h.0 a.0 a.1) (same_place s.memory.tail p) refl)

@@ -1,0 +1,20 @@
+use Rattle.core_model.specs.Lane.{lane_of}
+use Rattle.core_model.proofs.InRange.{is_word, counts_fit, shape_fits}
+use Rattle.core_model.proofs.Finds.{names_rows}
+use Rattle.core_model.proofs.Ends.{tail_fits, head_fits}
+use Rattle.core_model.proofs.laws.counts_stay_in_range.Goals as goal
+
+pub returns-clause-word : goal.returns-clause-word
+returns-clause-word c = λ shape s who L. is_word (lane_of shape) s L who
+
+pub returns-clause-raised : goal.returns-clause-raised
+returns-clause-raised c = λ shape s who L. counts_fit (lane_of shape) s L (shape_fits shape) who
+
+pub returns-clause-tail : goal.returns-clause-tail
+returns-clause-tail c = λ shape s L. tail_fits (lane_of shape) s L (shape_fits shape)
+
+pub returns-clause-head : goal.returns-clause-head
+returns-clause-head c = λ shape s p L is. head_fits (lane_of shape) s L (shape_fits shape) p is
+
+pub returns-clause-found : goal.returns-clause-found
+returns-clause-found c = λ shape s who L. names_rows (lane_of shape) s L (shape_fits shape) who

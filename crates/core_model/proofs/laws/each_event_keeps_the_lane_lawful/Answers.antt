@@ -1,0 +1,12 @@
+use Rattle.core_model.proofs.Opens.{opens}
+use Rattle.core_model.proofs.Steps.{keeps_next, keeps_start}
+use Rattle.core_model.proofs.laws.each_event_keeps_the_lane_lawful.Goals as goal
+
+pub returns-clause-opening : goal.returns-clause-opening
+returns-clause-opening c = opens
+
+pub returns-clause-step : goal.returns-clause-step
+returns-clause-step c = λ z s who L. keeps_next z s L who
+
+pub returns-clause-start : goal.returns-clause-start
+returns-clause-start c = λ z s who op L idle known left. keeps_start z s L who op idle known left

@@ -1,0 +1,32 @@
+-- The sizes of a lane, and who takes which row.
+use Rattle.std.specs.Prelude.{ℕ, ◌+◌, ◌*◌, ◌-◌, ◌/◌}
+use Rattle.bq_model.specs.declared.shape.Shape.{Shape}
+use Rattle.word_rows.specs.Sizes.{rows_of, items_of, own_rows_of}
+
+pub record Lane : Type 0 where
+  pub callers : ℕ
+  -- where the counts of operations begin
+  pub first : ℕ
+  -- the most operations of a caller
+  pub allowance : ℕ
+  -- how many rows there are, and how many of them are item rows of one caller
+  pub rows : ℕ
+  pub items : ℕ
+  -- the first item row of a caller, and whose row a row is (row 0 is nobody's, and never taken)
+  pub first_row : ℕ → ℕ
+  pub home : ℕ → ℕ
+
+-- the i-th item row of caller c
+abbrev pub item : Lane → ℕ → ℕ → ℕ
+item z c i = z.first_row c + i
+
+abbrev pub lane_of : Shape → Lane
+lane_of s = record {
+  callers = s.callers;
+  first = s.first_count;
+  allowance = s.allowance;
+  rows = rows_of s;
+  items = items_of s;
+  first_row = λ c. 1 + c * own_rows_of s;
+  home = λ r. (r - 1) / own_rows_of s;
+}

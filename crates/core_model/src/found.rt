@@ -1,0 +1,84 @@
+// What a step finds in its word.
+ghost use Rattle.std.specs.Prelude.{◌≡◌, ◌+◌, ◌<◌, ◌^◌};
+ghost use Rattle.core_model.specs.State.{head_in, tail_in, link_in, value_in};
+ghost use Rattle.core_model.specs.Step.{same_place, is_node, is_nil, behind};
+
+use word_rows::{Content, HeadWord, LinkWord, Place};
+
+/// What was found in HEAD.
+pub fn head_in(found: Content) -> HeadWord
+    ensures { result ≡ head_in found }
+{
+    match found {
+        Content::OfHead(head) => head,
+        _ => HeadWord::Ann { ann: 0, count: 0 },
+    }
+}
+
+/// What was found in TAIL.
+pub fn tail_in(found: Content) -> Place
+    ensures { result ≡ tail_in found }
+{
+    match found {
+        Content::OfTail(tail) => tail,
+        _ => Place { row: 0, count: 0 },
+    }
+}
+
+/// What was found in the LINK of a row.
+pub fn link_in(found: Content) -> LinkWord
+    ensures { result ≡ link_in found }
+{
+    match found {
+        Content::OfLink(link) => link,
+        _ => LinkWord::Nil,
+    }
+}
+
+/// What was found in the VALUE of a row.
+pub fn value_in(found: Content) -> u64
+    ensures { result ≡ value_in found }
+{
+    match found {
+        Content::OfValue(value) => value,
+        _ => 0,
+    }
+}
+
+/// Whether two places are the same.
+pub fn is_same_place(a: Place, b: Place) -> bool
+    ensures { result ≡ same_place a b }
+{
+    a.row == b.row && a.count == b.count
+}
+
+/// Whether HEAD names this place as its dummy.
+pub fn is_node(head: HeadWord, place: Place) -> bool
+    ensures { result ≡ is_node head place }
+{
+    match head {
+        HeadWord::Node(dummy) => is_same_place(dummy, place),
+        HeadWord::Ann { .. } => false,
+    }
+}
+
+/// Whether nothing is linked behind the row.
+pub fn is_nil(link: LinkWord) -> bool
+    ensures { result ≡ is_nil link }
+{
+    match link {
+        LinkWord::Nil => true,
+        _ => false,
+    }
+}
+
+/// The place of a row that is linked right behind another.
+pub fn behind(place: Place, row: u32) -> Place
+    requires { place.count < 2 ^ 44 }
+    ensures { result ≡ behind place row }
+{
+    Place {
+        row,
+        count: place.count + 1,
+    }
+}

@@ -1,0 +1,102 @@
+-- The calls' list as a function of the caller, and the parts of a step put together.
+use Rattle.std.proofs.Common.{◌≡◌, ℕ, zero, suc, ◌+◌, ◌<◌, Bool, true, cond, List, [], ◌∷◌, ◌++◌, length, map, slice_index_or, slice_set, count_by, sym, refl, ap, ◌∙◌, arith, get_or-set_same, get_or-set_other, slice_get, Some}
+use Rattle.std.proofs.lemmas.List.{map-set, get_or-map, length-map}
+use Rattle.std.proofs.lemmas.List.Sums.{sum_by-set}
+use Rattle.std.specs.declared.vec.Vec.{Vec}
+use Rattle.std.specs.declared.alloc.Global.{Global}
+use Rattle.bq_model.specs.declared.group.Group.{Group}
+use Rattle.word_rows.specs.declared.location.Location.{Location}
+use Rattle.word_rows.specs.declared.content.Content.{Content}
+use Rattle.core_model.specs.declared.turn.Turn.{Turn}
+use Rattle.core_model.specs.Functions.{put}
+use Rattle.core_model.specs.State.{Caller, State, read, write}
+use Rattle.bq_model.specs.declared.op.Op.{Op}
+use Rattle.core_model.specs.Lane.{lane_of}
+use Rattle.core_model.specs.Start.{newcomer, has_row, started, refused, start}
+use Rattle.core_model.specs.Step.{target, stored, grown, after, step_at, next}
+use Rattle.core_model.proofs.Puts.{put_all, put_same}
+use Rattle.step_core.specs.declared.call.Call.{Call}
+use Rattle.step_core.specs.declared.words.Words.{Words}
+use Rattle.step_core.specs.declared.lists.Lists.{Lists}
+use Rattle.step_core.specs.Calls.{call_of}
+use Rattle.step_core.specs.Waiting.{awaits}
+use Rattle.step_core.specs.Words.{memory_of}
+use Rattle.step_core.specs.Lists.{callers_of, state_of}
+
+abbrev pub one : Bool → ℕ
+one b = cond b 1 0
+
+pub caller_is : (ks : List Call) (c : ℕ) (k : Call) → c < length ks → k ≡ slice_index_or ks c k → callers_of ks c ≡ call_of k
+caller_is ks c k below is = get_or-map call_of ks c k newcomer below ∙ ap call_of (sym is)
+
+pub callers_set : (ks : List Call) (c : ℕ) (k : Call) → c < length ks → callers_of (slice_set ks c k) ≡ put (callers_of ks) c (call_of k)
+callers_set ks c k below = λ i d. put_all (callers_of ks) c (call_of k) (λ d y. callers_of (slice_set ks c k) d ≡ y)
+    (ap (λ (ys : List Caller). slice_index_or ys c newcomer) (map-set call_of ks c k) ∙ get_or-set_same (map call_of ks) c (call_of k) newcomer (let same = length-map ks call_of in omega arith))
+    (λ d apart. ap (λ (ys : List Caller). slice_index_or ys d newcomer) (map-set call_of ks c k) ∙ get_or-set_other (map call_of ks) c d (call_of k) newcomer apart) d i
+
+-- a call that shows the same caller
+pub callers_kept : (ks : List Call) (c : ℕ) (old new : Call) → c < length ks → old ≡ slice_index_or ks c old → call_of new ≡ call_of old → callers_of (slice_set ks c new) ≡ callers_of ks
+callers_kept ks c old new below is same = callers_set ks c new below ∙ (ap (put (callers_of ks) c) (same ∙ sym (caller_is ks c old below is)) ∙ put_same (callers_of ks) c)
+
+-- one more or one less waits
+pub waiting_set : (ks : List Call) (c : ℕ) (old new : Call) → c < length ks → old ≡ slice_index_or ks c old
+    → count_by (λ k. awaits k.turn) (slice_set ks c new) + cond (awaits (callers_of ks c).turn) 1 0 ≡ count_by (λ k. awaits k.turn) ks + cond (awaits (callers_of (slice_set ks c new) c).turn) 1 0
+waiting_set ks c old new below is = ap (λ (k : Caller). count_by (λ k. awaits k.turn) (slice_set ks c new) + cond (awaits k.turn) 1 0) (caller_is ks c old below is ∙ ap call_of is)
+    ∙ (sum_by-set (λ (k : Call). cond (awaits k.turn) 1 0) ks c new old below
+    ∙ ap (λ (k : Caller). count_by (λ k. awaits k.turn) ks + cond (awaits k.turn) 1 0) (sym (here (callers_set ks c new below)))) where
+      here : callers_of (slice_set ks c new) ≡ put (callers_of ks) c (call_of new) → callers_of (slice_set ks c new) c ≡ call_of new
+      here e = ap (λ (f : ℕ → Caller). f c) e ∙ Rattle.core_model.proofs.Puts.put_here (callers_of ks) c (call_of new)
+
+-- a load, a store, what the history gains and what the caller keeps are a step
+pub step_is : (a d e : Lists) (w : Words) (c n : ℕ) (t : Turn) (l : Location) (x : Content) → t ≡ (callers_of a.calls.items c).turn → l ≡ target t → x ≡ read (memory_of a.words) l
+    → memory_of w ≡ write (memory_of a.words) l (stored t x) → d.words ≡ w → d.calls ≡ a.calls → d.history.items ≡ a.history.items ++ grown (callers_of a.calls.items) c t x
+    → e.words ≡ d.words → e.history ≡ d.history → n ≡ length d.history.items
+    → callers_of e.calls.items ≡ put (callers_of d.calls.items) c (after n c (callers_of d.calls.items c) (callers_of d.calls.items c).turn x)
+    → state_of e ≡ next (state_of a) c
+unfolding next
+step_is a d e w c n t l x at names found writes words calls grew words' history' now goes = whole ∙ ap (step_at (state_of a) c) at where
+  held : x ≡ read (memory_of a.words) (target t)
+  held = found ∙ ap (read (memory_of a.words)) names
+
+  memory : memory_of e.words ≡ write (memory_of a.words) (target t) (stored t (read (memory_of a.words) (target t)))
+  memory = ap memory_of (words' ∙ words) ∙ (writes ∙ (λ i. write (memory_of a.words) (names i) (stored t (held i))))
+
+  callers : callers_of d.calls.items ≡ callers_of a.calls.items
+  callers = ap (λ (v : Vec Call Global). callers_of v.items) calls
+
+  history : e.history.items ≡ a.history.items ++ grown (callers_of a.calls.items) c t (read (memory_of a.words) (target t))
+  history = ap (λ (v : Vec Group Global). v.items) history' ∙ (grew ∙ (λ i. a.history.items ++ grown (callers_of a.calls.items) c t (held i)))
+
+  count : n ≡ length (a.history.items ++ grown (callers_of a.calls.items) c t (read (memory_of a.words) (target t)))
+  count = now ∙ ap length (grew ∙ (λ i. a.history.items ++ grown (callers_of a.calls.items) c t (held i)))
+
+  goes' : callers_of e.calls.items ≡ put (callers_of a.calls.items) c (after (length (a.history.items ++ grown (callers_of a.calls.items) c t (read (memory_of a.words) (target t)))) c (callers_of a.calls.items c) t (read (memory_of a.words) (target t)))
+  goes' = goes ∙ (λ i. put (callers i) c (after (count i) c (callers i c) ((ap (λ (f : ℕ → Caller). (f c).turn) callers ∙ sym at) i) (held i)))
+
+  whole : state_of e ≡ step_at (state_of a) c t
+  whole = λ i. record { memory = memory i; history = history i; callers = goes' i }
+
+-- nobody begins or ends to wait
+pub waiting_kept : (ks : List Call) (c : ℕ) (old new : Call) → c < length ks → old ≡ slice_index_or ks c old → new.turn ≡ old.turn → count_by (λ k. awaits k.turn) (slice_set ks c new) ≡ count_by (λ k. awaits k.turn) ks
+waiting_kept ks c old new below is same = let e = sum_by-set (λ (k : Call). cond (awaits k.turn) 1 0) ks c new old below in
+    let was = ap (λ (k : Call). one (awaits k.turn)) (sym is) in let now = ap (λ (t : Turn). one (awaits t)) same in omega arith
+
+pub get_set : (ks : List Call) (c : ℕ) (k : Call) → c < length ks → slice_get (slice_set ks c k) c ≡ Some k
+get_set [] c k below = absurd (omega arith)
+get_set (x ∷ ks) zero k below = refl
+get_set (x ∷ ks) (suc c) k below = get_set ks c k (omega arith)
+
+-- a command that begins on lists which show the same lane
+pub begun_is : (a r e : Lists) (c n : ℕ) (op : Op) → state_of r ≡ state_of a → r.shape ≡ a.shape → n ≡ length r.history.items → has_row (lane_of a.shape) (callers_of a.calls.items c).taken op ≡ true
+    → (state_of e).memory ≡ (state_of r).memory → (state_of e).history ≡ (state_of r).history
+    → callers_of e.calls.items ≡ put (callers_of r.calls.items) c (started (lane_of r.shape) n c (callers_of r.calls.items c) op) → state_of e ≡ start (lane_of a.shape) (state_of a) c op
+begun_is a r e c n op same shape now row memory history callers = λ i. record {
+  memory = (memory ∙ ap (λ (s : State). s.memory) same) i;
+  history = (history ∙ ap (λ (s : State). s.history) same) i;
+  callers = (callers ∙ (begun ∙ ap (λ (b : Bool). put (callers_of a.calls.items) c (cond b (started (lane_of a.shape) (length a.history.items) c (callers_of a.calls.items c) op) (refused (lane_of a.shape) (length a.history.items) c (callers_of a.calls.items c)))) (sym row))) i;
+} where
+  count : n ≡ length a.history.items
+  count = now ∙ ap (λ (s : State). length s.history) same
+
+  begun : put (callers_of r.calls.items) c (started (lane_of r.shape) n c (callers_of r.calls.items c) op) ≡ put (callers_of a.calls.items) c (started (lane_of a.shape) (length a.history.items) c (callers_of a.calls.items c) op)
+  begun = λ i. put (same i).callers c (started (lane_of (shape i)) (count i) c ((same i).callers c) op)

@@ -1,0 +1,7 @@
+-- The machine's state as contracts see it.
+pub mod Words
+pub mod Calls
+pub mod Waiting
+pub mod Lists
+pub mod Machine
+pub mod Schedule

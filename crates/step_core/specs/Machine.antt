@@ -1,0 +1,51 @@
+-- What contracts see of a machine.
+use Rattle.std.specs.Prelude.{ℕ, List, [], ◌∷◌, map, slice_index_or}
+use Rattle.bq_model.specs.declared.op.Op.{Op}
+use Rattle.bq_model.specs.declared.group.Group.{Group}
+use Rattle.bq_model.specs.declared.shape.Shape.{Shape}
+use Rattle.word_rows.specs.declared.place.Place.{Place}
+use Rattle.word_rows.specs.declared.head_word.HeadWord.{HeadWord}
+use Rattle.word_rows.specs.declared.link_word.LinkWord.{LinkWord}
+use Rattle.word_rows.specs.declared.link_word.LinkWord.TheVariants.{Nil}
+use Rattle.core_model.specs.Lane.{Lane}
+use Rattle.core_model.specs.State.{Caller, State}
+use Rattle.core_model.specs.Start.{newcomer, start}
+use Rattle.step_core.specs.declared.lists.Lists.{Lists}
+use Rattle.step_core.specs.Calls.{call_of}
+
+-- its shape, its words, the history, and what it keeps of each caller
+pub record View : Type 0 where
+  pub shape : Shape
+  pub head : HeadWord
+  pub tail : Place
+  pub links : List LinkWord
+  pub values : List ℕ
+  pub history : List Group
+  pub callers : List Caller
+
+abbrev pub caller_at : View → ℕ → Caller
+caller_at v c = slice_index_or v.callers c newcomer
+
+-- the state of the lane that it shows
+abbrev pub state_at : View → State
+state_at v = record {
+  memory = record { head = v.head; tail = v.tail; link = λ r. slice_index_or v.links r Nil; value = λ r. slice_index_or v.values r 0 };
+  history = v.history;
+  callers = caller_at v;
+}
+
+abbrev pub view_of : Lists → View
+view_of m = record {
+  shape = m.shape;
+  head = m.words.head;
+  tail = m.words.tail;
+  links = m.words.links.items;
+  values = m.words.values.items;
+  history = m.history.items;
+  callers = map call_of m.calls.items;
+}
+
+-- the start of a command with these operations, of which there is one
+abbrev pub start_of : Lane → State → ℕ → List Op → State
+start_of z s c [] = s
+start_of z s c (op ∷ ops) = start z s c op

@@ -1,0 +1,141 @@
+// A machine, which shows a lawful lane between any two steps.
+ghost use Rattle.std.specs.Prelude.{◌≡◌, ◌≢◌, ◌↔◌, ◌+◌, ◌<◌, IfOk, IsNone, Ok, Some, [], length};
+ghost use Rattle.bq_model.specs.History.{operations};
+ghost use Rattle.bq_model.specs.Own.{mine};
+ghost use Rattle.bq_model.specs.Proper.{IsProper};
+ghost use Rattle.excess_count.specs.Excess.{enqueue_count};
+ghost use Rattle.word_rows.specs.Sizes.{items_of};
+ghost use Rattle.core_model.specs.declared.turn.Turn.TheVariants.{Idle};
+ghost use Rattle.core_model.specs.Facts.{LastDone};
+ghost use Rattle.core_model.specs.Lane.{lane_of};
+ghost use Rattle.core_model.specs.Kind.{kind_of};
+ghost use Rattle.core_model.specs.Step.{next};
+ghost use Rattle.core_model.specs.Start.{PassesAllowance, opening};
+ghost use Rattle.core_model.specs.Lawful.{Lawful};
+ghost use Rattle.step_core.specs.Machine.{caller_at, state_at, start_of};
+
+use crate::lists::Lists;
+use crate::starts::Started;
+use bq_model::{Answers, Group, Op, OutOfMemory, Shape};
+use core_model::{CallEnd, StepKind};
+use std::alloc::Global;
+use std::marker::Model;
+
+/// A lane whose callers make one atomic step at a time, in any order. Contracts see its words, its history, and what it
+/// keeps of each caller.
+#[derive(Drop)]
+pub struct Machine {
+    lists: Lists,
+}
+
+impl Model for Machine {
+    ghost use Rattle.step_core.specs.Machine.{View};
+
+    ghost Value = { View };
+
+    ghost use Rattle.step_core.specs.Machine.{view_of};
+    ghost use Rattle.step_core.specs.Lists.{IsSound};
+
+    ghost view = { λ m. view_of m.lists };
+
+    ghost invariant = { λ m. IsSound m.lists };
+}
+
+impl Machine {
+    /// An empty lane, whose callers are idle.
+    pub fn new(alloc: Global, shape: &Shape) -> Result<Machine, OutOfMemory>
+        ensures opening { IfOk result (λ machine. state_at machine ≡ opening (lane_of shape.now)) }
+        ensures shape { IfOk result (λ machine. machine.shape ≡ shape.now) }
+    {
+        Ok(Machine {
+            lists: Lists::new(alloc, *shape)?,
+        })
+    }
+
+    /// How many callers there are.
+    pub fn callers(&self) -> u32
+        ensures { result ≡ self.now.shape.callers }
+    {
+        self.lists.shape.callers()
+    }
+
+    /// Starts a command of an idle caller. It takes all memory that the command's steps need. A command for which no row is
+    /// left ends with Full at once.
+    pub fn start(&mut self, caller: u32, ops: &[Op]) -> Result<Started, OutOfMemory>
+        requires known { caller < self.old.shape.callers }
+        requires idle { (caller_at self.old caller).turn ≡ Idle }
+        requires one { length ops.now ≡ 1 }
+        ensures spent { (result ≡ Ok Started.Spent) ↔ PassesAllowance (lane_of self.old.shape) (caller_at self.old caller) (length ops.now) }
+        ensures running { (result ≡ Ok Started.Running) → state_at self.new ≡ start_of (lane_of self.old.shape) (state_at self.old) caller ops.now }
+        ensures full { (result ≡ Ok Started.Running) → ((caller_at self.new caller).turn ≡ Idle)
+            ↔ (items_of self.old.shape < enqueue_count (operations (mine self.old.history caller)) + enqueue_count ops.now) }
+        ensures refusal_changes_nothing { result ≢ Ok Started.Running → state_at self.new ≡ state_at self.old }
+        ensures shape { self.new.shape ≡ self.old.shape }
+    {
+        let op = ops[0];
+        self.lists.start(caller, op)
+    }
+
+    /// Makes the next atomic step of a caller that is not idle, and gives its kind. It takes no memory.
+    pub fn step(&mut self, caller: u32) -> StepKind
+        requires known { caller < self.old.shape.callers }
+        requires runs { (caller_at self.old caller).turn ≢ Idle }
+        ensures step { state_at self.new ≡ next (state_at self.old) caller }
+        ensures kind { kind_of (caller_at self.old caller).turn ≡ Some result }
+        ensures shape { self.new.shape ≡ self.old.shape }
+    {
+        self.lists.step(caller)
+    }
+
+    /// The kind of the caller's next step.
+    pub fn next_kind(&self, caller: u32) -> Option<StepKind>
+        requires { caller < self.now.shape.callers }
+        ensures kind { result ≡ kind_of (caller_at self.now caller).turn }
+        ensures none_where_idle { IsNone result ↔ ((caller_at self.now caller).turn ≡ Idle) }
+    {
+        self.lists.calls[caller as usize].turn.kind()
+    }
+
+    /// How the caller's last command that ended did end.
+    pub fn result(&self, caller: u32) -> Option<CallEnd>
+        requires { caller < self.now.shape.callers }
+        ensures { result ≡ (caller_at self.now caller).outcome }
+    {
+        self.lists.calls[caller as usize].outcome
+    }
+
+    /// The answers of that command, none after Full.
+    pub fn answers(&self, caller: u32) -> &Answers
+        requires { caller < self.now.shape.callers }
+        ensures answers { result.now.items ≡ (caller_at self.now caller).answers }
+        ensures of_a_command_that_was_done { (caller_at self.now caller).outcome ≡ Some CallEnd.Done → LastDone self.now.history caller (caller_at self.now caller) }
+        ensures none_else { (caller_at self.now caller).outcome ≢ Some CallEnd.Done → result.now.items ≡ [] }
+    {
+        &self.lists.calls[caller as usize].answers
+    }
+
+    /// How many groups the history had at the start of the caller's last command.
+    pub fn started_at(&self, caller: u32) -> usize
+        requires { caller < self.now.shape.callers }
+        ensures { result ≡ (caller_at self.now caller).started_at }
+    {
+        self.lists.calls[caller as usize].started_at
+    }
+
+    /// How many groups the history had at that command's end, where it has ended.
+    pub fn ended_at(&self, caller: u32) -> Option<usize>
+        requires { caller < self.now.shape.callers }
+        ensures { result ≡ (caller_at self.now caller).ended_at }
+    {
+        self.lists.calls[caller as usize].ended_at
+    }
+
+    /// The history of the lane.
+    pub fn history(&self) -> &[Group]
+        ensures history { result.now ≡ self.now.history }
+        ensures proper { IsProper self.now.shape.callers result.now }
+        ensures lawful { Lawful (lane_of self.now.shape) (state_at self.now) }
+    {
+        self.lists.history.as_slice()
+    }
+}

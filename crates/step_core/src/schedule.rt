@@ -1,0 +1,147 @@
+// Lists of events.
+ghost use Rattle.std.specs.Prelude.{◌≡◌, ◌<◌, ℕ, nat_lt, IfOk, OnOk, Ok, Err, None};
+ghost use Rattle.step_core.specs.declared.schedule.EventCause.{EventCause};
+ghost use Rattle.step_core.specs.declared.schedule.ScheduleRefused.TheVariants.{Memory};
+ghost use Rattle.core_model.specs.Lane.{lane_of};
+ghost use Rattle.core_model.specs.Start.{opening};
+ghost use Rattle.step_core.specs.Machine.{caller_at, state_at};
+ghost use Rattle.step_core.specs.Schedule.{is_idle, cause_of, after_event, schedule};
+
+use crate::machine::Machine;
+use crate::starts::Started;
+use bq_model::{Ops, OutOfMemory, Shape};
+use core_model::StepKind;
+use std::alloc::Global;
+
+/// Something that happens to a machine.
+#[derive(Debug, Drop)]
+pub enum Event {
+    /// A caller starts a command.
+    Start {
+        /// The number of the caller.
+        caller: u32,
+        /// The operations of the command.
+        ops: Ops,
+    },
+    /// A caller makes its next atomic step.
+    Step {
+        /// The number of the caller.
+        caller: u32,
+    },
+}
+
+/// Why an event cannot happen.
+#[derive(Clone, Copy, Debug, PartialEq, Eq, Hash)]
+pub enum EventCause {
+    /// There is no such caller.
+    BadCaller,
+    /// A command is started with no operation, or with two or more.
+    BadBatch,
+    /// A command is started by a caller that runs one.
+    BusyCaller,
+    /// A caller that runs no command makes a step.
+    IdleCaller,
+}
+
+/// Why a schedule was not run to its end.
+#[derive(Clone, Copy, Debug, PartialEq, Eq, Hash)]
+pub enum ScheduleRefused {
+    /// An event cannot happen, the first one.
+    At {
+        /// Its number, from 0.
+        event: usize,
+        /// Why it cannot.
+        cause: EventCause,
+    },
+    /// Memory was lacking.
+    Memory,
+}
+
+impl From<OutOfMemory> for ScheduleRefused {
+    ghost from_gives = { λ _ refused. refused ≡ Memory };
+
+    fn from(_error: OutOfMemory) -> Self {
+        ScheduleRefused::Memory
+    }
+}
+
+impl Machine {
+    fn is_idle(&self, caller: u32) -> bool
+        requires { caller < self.now.shape.callers }
+        ensures { result ≡ is_idle (caller_at self.now caller).turn }
+    {
+        self.next_kind(caller).is_none()
+    }
+
+    fn is_caller(&self, caller: u32) -> bool
+        ensures { result ≡ nat_lt caller self.now.shape.callers }
+    {
+        caller < self.callers()
+    }
+
+    // Why the event cannot happen now.
+    fn cause(&self, event: &Event) -> Option<EventCause>
+        ensures { result ≡ cause_of (lane_of self.now.shape) (state_at self.now) event.now }
+    {
+        match event {
+            Event::Start { caller, ops } => {
+                if !self.is_caller(*caller) {
+                    Some(EventCause::BadCaller)
+                } else if ops.len() != 1 {
+                    Some(EventCause::BadBatch)
+                } else if !self.is_idle(*caller) {
+                    Some(EventCause::BusyCaller)
+                } else {
+                    None
+                }
+            }
+            Event::Step { caller } => {
+                if !self.is_caller(*caller) {
+                    Some(EventCause::BadCaller)
+                } else if self.is_idle(*caller) {
+                    Some(EventCause::IdleCaller)
+                } else {
+                    None
+                }
+            }
+        }
+    }
+
+    // The event happens.
+    fn happen(&mut self, event: &Event) -> Result<(), OutOfMemory>
+        requires { cause_of (lane_of self.old.shape) (state_at self.old) event.now ≡ None }
+        ensures after { OnOk result (state_at self.new ≡ after_event (lane_of self.old.shape) (state_at self.old) event.now) }
+        ensures shape { self.new.shape ≡ self.old.shape }
+    {
+        match event {
+            Event::Start { caller, ops } => {
+                let _: Started = self.start(*caller, ops.as_slice())?;
+            }
+            Event::Step { caller } => {
+                let _: StepKind = self.step(*caller);
+            }
+        }
+        Ok(())
+    }
+}
+
+/// Runs the events on a new machine, until one of them cannot happen.
+pub fn run_schedule(
+    alloc: Global,
+    shape: &Shape,
+    events: &[Event],
+) -> Result<Machine, ScheduleRefused>
+    ensures ran { IfOk result (λ machine. schedule (lane_of shape.now) (opening (lane_of shape.now)) 0 events.now ≡ Ok (state_at machine)) }
+    ensures shape { IfOk result (λ machine. machine.shape ≡ shape.now) }
+    ensures first_cause { (event : ℕ) (cause : EventCause) → result ≡ Err (ScheduleRefused.At event cause)
+        → schedule (lane_of shape.now) (opening (lane_of shape.now)) 0 events.now ≡ Err (event, cause) }
+{
+    let mut machine = Machine::new(alloc, shape)?;
+    for (event, happening) in events.iter().enumerate() {
+        if let Some(cause) = machine.cause(happening) {
+            return Err(ScheduleRefused::At { event, cause });
+        }
+        machine.happen(happening)?;
+    }
+    Ok(machine)
+}
