@@ -1,12 +1,9 @@
 -- A step changes its own caller alone.
-use Rattle.std.proofs.Common.{◌≡◌, ◌≢◌, ◌⊎◌, inl, inr, ℕ, ◌++◌, Bool, true, false, cond, List, [], ◌∷◌, length, refl, sym, ap, ◌∙◌, subst}
-use Rattle.bq_model.specs.declared.group.Group.{Group}
+use Rattle.std.proofs.Common.{◌≡◌, ◌≢◌, inl, inr, ℕ, ◌++◌, length, refl, sym, subst}
 use Rattle.core_model.specs.declared.course.Course.{Course}
 use Rattle.core_model.specs.declared.course.Course.TheVariants.{GoesOn, Ends}
-use Rattle.core_model.specs.declared.turn.Turn.TheVariants.{Idle}
-use Rattle.core_model.specs.Functions.{put}
 use Rattle.core_model.specs.State.{Caller, State, read}
-use Rattle.core_model.specs.Step.{target, own_group, grown, course, followed, after, next}
+use Rattle.core_model.specs.Step.{target, grown, course, followed, after, next}
 use Rattle.core_model.specs.Alone.{GoesOnOrEnds}
 use Rattle.core_model.proofs.Puts.{put_here, put_else}
 

@@ -16,11 +16,13 @@ use Rattle.word_rows.specs.declared.content.Content.TheVariants.{OfLink}
 use Rattle.core_model.specs.declared.turn.Item.{Item}
 use Rattle.core_model.specs.declared.turn.Turn.TheVariants.{EnqTail, LinkSingle, EnqLast}
 use Rattle.core_model.specs.Functions.{put, run}
-use Rattle.core_model.specs.Lane.{Lane, item}
+use Rattle.core_model.specs.Lane.{Lane, item, IsItem}
 use Rattle.core_model.specs.State.{Memory, Caller, State}
 use Rattle.core_model.specs.Step.{own_group, turned, step_with, step_at}
-use Rattle.core_model.specs.Facts.{Ghost, World, places, joint, Unlinked, LinkAt, On, linked, owns, holds_item, is_op, landed_is, Kept, Holds, Each, turn_facts, facts}
-use Rattle.core_model.specs.Lawful.{shown_queue, at, head_word, Listed, Headed, Tailed, OwnGroups, Lawful}
+use Rattle.core_model.specs.Ghost.{Ghost, World, places, joint, Unlinked, LinkAt, On}
+use Rattle.core_model.specs.Kept.{Kept}
+use Rattle.core_model.specs.Facts.{linked, owns, holds_item, is_op, landed_is, Holds, Each, turn_facts, facts}
+use Rattle.core_model.specs.Lawful.{shown_queue, at, head_word, Listed, ItemRows, Headed, Tailed, OwnGroups, Lawful}
 use Rattle.core_model.proofs.Puts.{put_here, put_else, run_last, run_same}
 use Rattle.core_model.proofs.Groups.{mine-push_other}
 use Rattle.core_model.proofs.Stays.{world, Grows, owns_stays, kept_stays}
@@ -131,6 +133,9 @@ module _ (z : Lane) (s : State) (L : Lawful z s) (c : ℕ) where
       inside = λ i below. each_place (λ i r. r < z.rows) 0 (λ i _ below. L.rows.inside i below) o.0.inside i (omega arith) below;
     }
 
+    items' : ItemRows z path' G.head (suc G.rest) G.shown
+    items' = λ i above below. each_place (λ i r. IsItem z r) (suc (G.head + G.shown)) (λ i above below. L.item_rows i (omega arith) below) o.0.is_item i (omega arith) (omega arith)
+
     headed' : Headed z.first s.memory.head path' G.head (suc G.rest) G.ann G.shown (suc G.queued)
     headed' = record {
       named = L.head.named ∙ named G.ann;
@@ -212,7 +217,7 @@ module _ (z : Lane) (s : State) (L : Lawful z s) (c : ℕ) where
     pub appended : Lawful z (changed s c memory' (own_group c (s.callers c) ∷ []) k')
     appended = keeps z s L c memory' (own ∷ []) G' k' (λ r. r ≡ x.row) (λ r is. ap z.home is ∙ o.0.at_home) grows
         (λ d apart. (put_else G.landed c true d apart, mine-push_other s.history own d apart))
-        (lands_proper z s L c (Enq x.value) off op) queue' listed' headed' tailed'
+        (lands_proper z s L c (Enq x.value) off op) queue' listed' items' headed' tailed'
         (let more = lands_operations z s L c (Enq x.value) off op in let was = L.counts in omega arith)
         groups' (L.allowed c) knows'
 

@@ -17,7 +17,7 @@ use Rattle.core_model.specs.declared.turn.CallEnd.TheVariants.{Done}
 use Rattle.core_model.specs.Lane.{Lane}
 use Rattle.core_model.specs.State.{State}
 use Rattle.core_model.specs.Step.{own_group}
-use Rattle.core_model.specs.Facts.{numbered}
+use Rattle.core_model.specs.Kept.{numbered}
 use Rattle.core_model.specs.Lawful.{head_word, Lawful}
 use Rattle.core_model.specs.Once.{times}
 use Rattle.core_model.specs.Ended.{EndedDone}

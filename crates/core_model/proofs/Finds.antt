@@ -13,7 +13,8 @@ use Rattle.core_model.specs.Lane.{Lane}
 use Rattle.core_model.specs.State.{State, read}
 use Rattle.core_model.specs.Step.{target}
 use Rattle.core_model.specs.Ranges.{NamesRows}
-use Rattle.core_model.specs.Facts.{places, joint, linked, Holds, Each, turn_facts}
+use Rattle.core_model.specs.Ghost.{places, joint}
+use Rattle.core_model.specs.Facts.{linked, Holds, Each, turn_facts}
 use Rattle.core_model.specs.Lawful.{Lawful}
 use Rattle.core_model.proofs.Stays.{world}
 use Rattle.core_model.proofs.Keeps.{known}

@@ -20,8 +20,10 @@ use Rattle.core_model.specs.Functions.{run}
 use Rattle.core_model.specs.Lane.{Lane, item}
 use Rattle.core_model.specs.State.{Memory, Caller, State, write}
 use Rattle.core_model.specs.Step.{is_node, behind, own_group, ended, followed, step_with, step_at}
-use Rattle.core_model.specs.Facts.{Ghost, World, next_is, next_value, landed_is, is_op, Kept, Holds, Each, turn_facts, facts}
-use Rattle.core_model.specs.Lawful.{shown_queue, at, head_word, Listed, Headed, Tailed, Lawful}
+use Rattle.core_model.specs.Ghost.{Ghost, World}
+use Rattle.core_model.specs.Kept.{Kept}
+use Rattle.core_model.specs.Facts.{next_is, next_value, landed_is, is_op, Holds, Each, turn_facts, facts}
+use Rattle.core_model.specs.Lawful.{shown_queue, at, head_word, Listed, ItemRows, Headed, Tailed, Lawful}
 use Rattle.core_model.proofs.Groups.{mine-push_other}
 use Rattle.core_model.proofs.Stays.{world, Grows, owns_stays}
 use Rattle.core_model.proofs.Keeps.{known, quiet, keeps, changed, same_places, write_read, grows_history, allowed_end, lands_proper, lands_operations, lands_groups, lands_kept}
@@ -117,6 +119,9 @@ module _ (z : Lane) (s : State) (L : Lawful z s) (c : ℕ) where
       inside = λ i below. L.rows.inside i (omega arith);
     }
 
+    items' : ItemRows z G.path (suc G.head) fewer.0 G.shown
+    items' = let e = same_end in λ i above below. L.item_rows i (omega arith) (omega arith)
+
     headed' : Headed z.first (Node (behind p n)) G.path (suc G.head) fewer.0 G.ann G.shown fewer.0
     headed' = let b = bare in record {
       named = named ∙ ap (head_word z.first G.path (suc G.head)) (sym no_ann);
@@ -136,7 +141,7 @@ module _ (z : Lane) (s : State) (L : Lawful z s) (c : ℕ) where
 
     pub moved : Lawful z (changed s c memory' (own_group c (s.callers c) ∷ []) (last (Got v ∷ [])))
     moved = keeps z s L c memory' (own ∷ []) G' (last (Got v ∷ [])) (λ _. ⊥) (λ _ x. absurd x) grows (λ d apart. (refl, mine-push_other s.history own d apart))
-        (lands_proper z s L c Deq off op) queue' listed' headed' tailed'
+        (lands_proper z s L c Deq off op) queue' listed' items' headed' tailed'
         (let e = same_end in let more = lands_operations z s L c Deq off op in let was = L.counts in omega arith)
         (lands_groups z s L c Deq off op (Got v ∷ []) right)
         (allowed_end z c (s.callers c) (L.allowed c))
@@ -156,7 +161,7 @@ module _ (z : Lane) (s : State) (L : Lawful z s) (c : ℕ) where
   empty : (p : Place) → s.memory.link p.row ≡ Nil → Each z (world s L.ghost) c (turn_facts z c (s.callers c) (DeqLink p)) → Lawful z (step_with s c (DeqLink p) (OfLink Nil))
   empty p nil (off, (op, (f, (seen, rest)))) = subst (λ (m : Memory). Lawful z (changed s c m (own ∷ []) (last (Empty ∷ [])))) (sym (ap (write s.memory (Link p.row)) (ap OfLink (sym nil)) ∙ write_read s.memory (Link p.row)))
       (keeps z s L c s.memory (own ∷ []) G (last (Empty ∷ [])) (λ _. ⊥) (λ _ x. absurd x) grows (λ d apart. (refl, mine-push_other s.history own d apart))
-      (lands_proper z s L c Deq off op) queue' L.rows L.head L.tail
+      (lands_proper z s L c Deq off op) queue' L.rows L.item_rows L.head L.tail
       (let more = lands_operations z s L c Deq off op in let was = L.counts in omega arith)
       (lands_groups z s L c Deq off op (Empty ∷ []) right)
       (allowed_end z c (s.callers c) (L.allowed c))

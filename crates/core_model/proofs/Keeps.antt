@@ -18,8 +18,10 @@ use Rattle.core_model.specs.Functions.{put}
 use Rattle.core_model.specs.Lane.{Lane}
 use Rattle.core_model.specs.State.{Memory, Caller, State, read, write}
 use Rattle.core_model.specs.Step.{same_place, own_group, turned, ended}
-use Rattle.core_model.specs.Facts.{Ghost, World, Stands, Kept, is_op, Holds, Each, turn_facts, facts}
-use Rattle.core_model.specs.Lawful.{shown_queue, Listed, Headed, Tailed, OwnGroups, Allowed, Lawful}
+use Rattle.core_model.specs.Ghost.{Ghost, World}
+use Rattle.core_model.specs.Kept.{Stands, Kept}
+use Rattle.core_model.specs.Facts.{is_op, Holds, Each, turn_facts, facts}
+use Rattle.core_model.specs.Lawful.{shown_queue, Listed, ItemRows, Headed, Tailed, OwnGroups, Allowed, Lawful}
 use Rattle.core_model.proofs.Puts.{put_here, put_else, put_all, put_same}
 use Rattle.core_model.proofs.Groups.{mine-push_own, length-operations-push, enqueues-push, proper-push}
 use Rattle.core_model.proofs.Stays.{world, Grows, all_stay}
@@ -92,6 +94,7 @@ module _ (z : Lane) (s : State) (L : Lawful z s) (c : ℕ) where
       → IsProper z.callers (s.history ++ added)
       → last_queue (s.history ++ added) ≡ shown_queue memory.value g
       → Listed z.rows memory.link g.path g.chained g.spot g.head g.rest
+      → ItemRows z g.path g.head g.rest g.shown
       → Headed z.first memory.head g.path g.head g.rest g.ann g.shown g.queued
       → Tailed z.first memory.tail g.path g.chained g.head g.rest g.tail
       → g.head + g.rest ≤ length (operations (s.history ++ added))
@@ -99,11 +102,12 @@ module _ (z : Lane) (s : State) (L : Lawful z s) (c : ℕ) where
       → Allowed z k.mine k.ops k.taken
       → Each z record { memory = memory; history = s.history ++ added; ghost = g } c (facts z c k)
       → Lawful z (changed s c memory added k)
-  keeps memory added g k Touch homes grows others proper queue listed headed tailed counts groups allowed mine' = let w : World = record { memory = memory; history = s.history ++ added; ghost = g } in record {
+  keeps memory added g k Touch homes grows others proper queue listed items headed tailed counts groups allowed mine' = let w : World = record { memory = memory; history = s.history ++ added; ghost = g } in record {
     ghost = g;
     history = proper;
     queue = queue;
     rows = listed;
+    item_rows = items;
     head = headed;
     tail = tailed;
     counts = counts;
@@ -121,6 +125,7 @@ module _ (z : Lane) (s : State) (L : Lawful z s) (c : ℕ) where
     history = L.history;
     queue = L.queue;
     rows = L.rows;
+    item_rows = L.item_rows;
     head = L.head;
     tail = L.tail;
     counts = L.counts;
@@ -145,6 +150,7 @@ module _ (z : Lane) (s : State) (L : Lawful z s) (c : ℕ) where
     history = L.history;
     queue = L.queue;
     rows = L.rows;
+    item_rows = L.item_rows;
     head = L.head;
     tail = L.tail;
     counts = L.counts;
@@ -154,7 +160,7 @@ module _ (z : Lane) (s : State) (L : Lawful z s) (c : ℕ) where
         (λ d apart. L.own_groups d ∙ ap (λ (b : Bool). (s.callers d).mine ++ cond b (own_group d (s.callers d) ∷ []) []) (sym (put_else L.ghost.landed c false d apart)));
     allowed = put_all s.callers c k (λ d y. Allowed z y.mine y.ops y.taken) (allowed_end z c me (L.allowed c)) (λ d _. L.allowed d);
     kept_facts = put_all s.callers c k (λ d y. Each z W d (facts z d y)) (
-      (λ i from below at. let o = (L.kept_facts c).0 i from below at in record { at_home = o.at_home; inside = o.inside; unlinked = o.unlinked; nil = o.nil }),
+      (λ i from below at. let o = (L.kept_facts c).0 i from below at in record { at_home = o.at_home; inside = o.inside; is_item = o.is_item; unlinked = o.unlinked; nil = o.nil }),
       ((L.kept_facts c).1.0, (kept', (put_here L.ghost.landed c false, ((refl, λ _. ended_somewhere), tt)))),
     )
         (λ d apart. all_stay z (λ _. ⊥) here W grows d (λ _ _ x. x) (put_else L.ghost.landed c false d apart) (facts z d (s.callers d)) (L.kept_facts d));

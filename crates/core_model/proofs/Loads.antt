@@ -16,7 +16,8 @@ use Rattle.core_model.specs.declared.course.Course.TheVariants.{GoesOn}
 use Rattle.core_model.specs.Lane.{Lane}
 use Rattle.core_model.specs.State.{State, write}
 use Rattle.core_model.specs.Step.{same_place, followed, step_with, step_at}
-use Rattle.core_model.specs.Facts.{Ghost, places, joint, linked, next_is, Holds, Each, turn_facts}
+use Rattle.core_model.specs.Ghost.{Ghost, places, joint}
+use Rattle.core_model.specs.Facts.{linked, next_is, Holds, Each, turn_facts}
 use Rattle.core_model.specs.Lawful.{at, head_word, Lawful}
 use Rattle.core_model.proofs.Stays.{world}
 use Rattle.core_model.proofs.Keeps.{known, quiet, changed}

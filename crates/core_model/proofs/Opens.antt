@@ -9,7 +9,8 @@ use Rattle.word_rows.specs.Sizes.{items_of, own_rows_of}
 use Rattle.core_model.specs.declared.turn.CallEnd.TheVariants.{Done}
 use Rattle.core_model.specs.Lane.{item, lane_of}
 use Rattle.core_model.specs.Start.{opening}
-use Rattle.core_model.specs.Facts.{Ghost, Owns}
+use Rattle.core_model.specs.Ghost.{Ghost}
+use Rattle.core_model.specs.Facts.{Owns}
 use Rattle.core_model.specs.Lawful.{Lawful}
 use Rattle.core_model.proofs.Stays.{world}
 
@@ -34,6 +35,7 @@ opens z = record {
     spots = λ i _ below. ap Some (let e : 0 ≡ i = omega arith in e);
     inside = λ i _. omega arith;
   };
+  item_rows = λ i above below. absurd (omega arith);
   head = record {
     named = λ i. Node (record { row = 0; count = (let e : z.first_count ≡ z.first_count + 0 = omega arith in e) i });
     none = λ _. refl;
@@ -57,6 +59,7 @@ opens z = record {
   unused c i below known = let own : i < own_rows_of z = omega arith in record {
     at_home = row_home (own_rows_of z) c i own;
     inside = row_inside z.callers (own_rows_of z) c i own known;
+    is_item = (c, i, known, below, refl);
     unlinked = ap (λ (b : Bool). cond b (Some 0) None) (ne_eqb (1 + c * own_rows_of z + i) 0 (λ e. omega arith));
     nil = refl;
   }

@@ -5,7 +5,9 @@ use Rattle.bq_model.specs.declared.group.Group.{Group}
 use Rattle.word_rows.specs.declared.place.Place.{Place}
 use Rattle.core_model.specs.Lane.{Lane, item}
 use Rattle.core_model.specs.State.{Caller, State}
-use Rattle.core_model.specs.Facts.{Ghost, World, places, Unlinked, LinkAt, On, Stands, numbered, Kept, Fact, owns, holds_item, unused, linked, head_seen, tail_seen, tail_past, next_is, by_single, next_value, landed_is, is_op, answered, since, kept, rests, Owns, Holds, Each}
+use Rattle.core_model.specs.Ghost.{Ghost, World, places, Unlinked, LinkAt, On}
+use Rattle.core_model.specs.Kept.{Stands, numbered, Kept}
+use Rattle.core_model.specs.Facts.{Fact, owns, holds_item, unused, linked, head_seen, tail_seen, tail_past, next_is, by_single, next_value, landed_is, is_op, answered, since, kept, rests, Owns, Holds, Each}
 
 -- a state with what its words don't say
 abbrev pub world : State → Ghost → World
@@ -40,7 +42,7 @@ module _ (z : Lane) (Touch : ℕ → Type 0) (a b : World) (g : Grows Touch a b)
   kept_stays k x = record { none = x.none; done = λ is. let y = x.done is in record { earlier = y.earlier; ops = y.ops; last = y.last; stands = stands_still (numbered c y.earlier y.ops) k.answers y.stands; timely = y.timely } }
 
   pub owns_stays : (r : ℕ) → ¬ (Touch r) → Owns z a c r → Owns z b c r
-  owns_stays r off o = record { at_home = o.at_home; inside = o.inside; unlinked = g.spot_own r o.unlinked off; nil = g.link_own r o.unlinked off ∙ o.nil }
+  owns_stays r off o = record { at_home = o.at_home; inside = o.inside; is_item = o.is_item; unlinked = g.spot_own r o.unlinked off; nil = g.link_own r o.unlinked off ∙ o.nil }
 
   next_value_stays : (p : Place) (v : ℕ) → Holds z a c (next_value p v) → Holds z b c (next_value p v)
   next_value_stays p v x = let longer = g.longer in let heads = g.heads in let seen = x.0 in (

@@ -14,7 +14,8 @@ use Rattle.core_model.specs.Lane.{Lane}
 use Rattle.core_model.specs.State.{Caller, State}
 use Rattle.core_model.specs.Step.{own_group, step_at, next}
 use Rattle.core_model.specs.Start.{PassesAllowance, has_row, rows_taken, started, refused, start}
-use Rattle.core_model.specs.Facts.{Kept, Each, facts}
+use Rattle.core_model.specs.Kept.{Kept}
+use Rattle.core_model.specs.Facts.{Each, facts}
 use Rattle.core_model.specs.Lawful.{OwnGroups, Allowed, Lawful}
 use Rattle.core_model.proofs.Puts.{put_all}
 use Rattle.core_model.proofs.Stays.{world}
@@ -55,6 +56,7 @@ module _ (z : Lane) (s : State) (L : Lawful z s) (c : ℕ) where
     history = L.history;
     queue = L.queue;
     rows = L.rows;
+    item_rows = L.item_rows;
     head = L.head;
     tail = L.tail;
     counts = L.counts;

@@ -12,7 +12,9 @@ use Rattle.core_model.specs.Functions.{put, run}
 use Rattle.core_model.specs.Lane.{Lane, item}
 use Rattle.core_model.specs.State.{Memory, Caller, State}
 use Rattle.core_model.specs.Step.{turned, step_at}
-use Rattle.core_model.specs.Facts.{Ghost, World, places, owns, is_op, landed_is, Kept, Owns, Holds}
+use Rattle.core_model.specs.Ghost.{Ghost, World, places}
+use Rattle.core_model.specs.Kept.{Kept}
+use Rattle.core_model.specs.Facts.{owns, is_op, landed_is, Owns, Holds}
 use Rattle.core_model.specs.Lawful.{Lawful}
 use Rattle.core_model.proofs.Puts.{put_here, put_else, run_same}
 use Rattle.core_model.proofs.Stays.{world, Grows, owns_stays}
@@ -61,7 +63,7 @@ module _ (z : Lane) (s : State) (L : Lawful z s) (c : ℕ) (x : Item) (off : Hol
   still P p = subst P (sym (append-nil s.history)) p
 
   row : Owns z W c x.row
-  row = record { at_home = own.0.at_home; inside = own.0.inside; unlinked = own.0.unlinked; nil = own.0.nil }
+  row = record { at_home = own.0.at_home; inside = own.0.inside; is_item = own.0.is_item; unlinked = own.0.unlinked; nil = own.0.nil }
 
   pub value_stored : Lawful z (changed s c memory' [] k')
   value_stored = keeps z s L c memory' [] G k' (λ r. r ≡ x.row) (λ r e. ap z.home e ∙ own.0.at_home) grows
@@ -69,7 +71,7 @@ module _ (z : Lane) (s : State) (L : Lawful z s) (c : ℕ) (x : Item) (off : Hol
       (still (IsProper z.callers) L.history)
       (still (λ h. last_queue h ≡ run (λ i. value' (G.path i)) (suc (G.head + G.shown)) G.queued)
       (L.queue ∙ run_same (λ i. s.memory.value (G.path i)) (λ i. value' (G.path i)) (suc (G.head + G.shown)) G.queued (λ j from below. let fits = L.head.fits in sym (on_path j (omega arith) (omega arith)))))
-      L.rows L.head L.tail
+      L.rows L.item_rows L.head L.tail
       (still (λ h. G.head + G.rest ≤ length (operations h)) L.counts)
       (ap (λ (h : List Group). mine h c) (append-nil s.history) ∙ L.own_groups c)
       (L.allowed c)

@@ -12,7 +12,8 @@ use Rattle.core_model.specs.Functions.{put}
 use Rattle.core_model.specs.Lane.{Lane}
 use Rattle.core_model.specs.State.{Memory, Caller, State, write}
 use Rattle.core_model.specs.Step.{turned, ended, same_place, behind, step_at}
-use Rattle.core_model.specs.Facts.{Ghost, World, next_is, by_single, Holds, facts}
+use Rattle.core_model.specs.Ghost.{Ghost, World}
+use Rattle.core_model.specs.Facts.{next_is, by_single, Holds, facts}
 use Rattle.core_model.specs.Lawful.{Lawful}
 use Rattle.core_model.proofs.Stays.{world, Grows, all_stay}
 use Rattle.core_model.proofs.Keeps.{known, turns, finishes, changed, same_places}
@@ -29,6 +30,7 @@ module _ (z : Lane) (s : State) (L : Lawful z s) (c : ℕ) where
     history = L.history;
     queue = L.queue;
     rows = L.rows;
+    item_rows = L.item_rows;
     head = L.head;
     tail = let inside = (next.2 G.tail count).0 in let from = L.tail.after_head in let lags = (L.tail.lags (omega arith)).1 in let here = count in record {
       named = λ i. record { row = sym (next.2 G.tail count).1 i; count = (let y : p.count + 1 ≡ z.first + suc G.tail = omega arith in y) i };

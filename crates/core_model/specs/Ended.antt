@@ -4,7 +4,7 @@ use Rattle.bq_model.specs.declared.op.Op.{Op}
 use Rattle.bq_model.specs.declared.group.Group.{Group}
 use Rattle.bq_model.specs.Own.{mine}
 use Rattle.core_model.specs.State.{State}
-use Rattle.core_model.specs.Facts.{numbered, Stands}
+use Rattle.core_model.specs.Kept.{numbered, Stands}
 use Rattle.core_model.specs.Once.{times}
 
 -- It was done: its group is the last one of the caller's in the history and stands there once, between the command's start

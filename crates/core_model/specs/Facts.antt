@@ -1,93 +1,20 @@
 -- What a caller knows of the lane while it makes its steps.
-use Rattle.std.specs.Prelude.{◌≡◌, ◌≢◌, ℕ, suc, ◌+◌, ◌<◌, ◌≤◌, ◌++◌, Bool, true, false, List, [], ◌∷◌, length, Option, Some, None, IsSome}
+use Rattle.std.specs.Prelude.{◌≡◌, ◌≢◌, ℕ, suc, ◌+◌, ◌<◌, ◌≤◌, Bool, true, false, List, [], ◌∷◌, length, None, IsSome}
 use Rattle.bq_model.specs.declared.op.Op.{Op}
 use Rattle.bq_model.specs.declared.op.Op.TheVariants.{Enq, Deq}
 use Rattle.bq_model.specs.declared.op.Answer.{Answer}
 use Rattle.bq_model.specs.declared.op.Answer.TheVariants.{Done}
 use Rattle.bq_model.specs.declared.group.Group.{Group}
-use Rattle.bq_model.specs.Replay.{answers_from}
-use Rattle.bq_model.specs.History.{last_queue}
 use Rattle.word_rows.specs.declared.place.Place.{Place}
-use Rattle.word_rows.specs.declared.link_word.LinkWord.{LinkWord}
-use Rattle.word_rows.specs.declared.link_word.LinkWord.TheVariants.{Nil, Single, Chain}
+use Rattle.word_rows.specs.declared.link_word.LinkWord.TheVariants.{Nil}
 use Rattle.core_model.specs.declared.turn.Item.{Item}
 use Rattle.core_model.specs.declared.turn.Turn.{Turn}
 use Rattle.core_model.specs.declared.turn.Turn.TheVariants.{Idle, StoreValue, EnqTail, EnqLink, LinkSingle, EnqPass, EnqLast, EnqHead, DeqHead, DeqLink, DeqTail, DeqOver, DeqPass, DeqValue, MoveHead}
-use Rattle.core_model.specs.declared.turn.CallEnd.TheVariants as outcome
-use Rattle.core_model.specs.Lane.{Lane, item}
-use Rattle.core_model.specs.State.{Memory, Caller}
+use Rattle.core_model.specs.Lane.{Lane, item, IsItem}
+use Rattle.core_model.specs.State.{Caller}
 use Rattle.core_model.specs.Step.{own_group}
-
--- What the words don't say of a lane. Each row that was ever linked has a place, from 0 on; the row at the place i has
--- the count `first + i`.
-pub record Ghost : Type 0 where
-  -- the row at a place, and whether its link is a Chain
-  pub path : ℕ → ℕ
-  pub chained : ℕ → Bool
-  -- the place of a row since it was linked last; none while it is unused or taken
-  pub spot : ℕ → Option ℕ
-  -- the place of the dummy, how many rows lie behind it, and the place that TAIL names
-  pub head : ℕ
-  pub rest : ℕ
-  pub tail : ℕ
-  -- the announcement in HEAD, how many rows lie between the dummy and the shown head, and how many behind that
-  pub ann : Option ℕ
-  pub shown : ℕ
-  pub queued : ℕ
-  -- the running command of a caller stands in the history
-  pub landed : ℕ → Bool
-
--- how many places there are
-abbrev pub places : Ghost → ℕ
-places g = suc (g.head + g.rest)
-
--- the words and the history, with what they don't say
-pub record World : Type 0 where
-  pub memory : Memory
-  pub history : List Group
-  pub ghost : Ghost
-
--- the link to the row r
-abbrev pub joint : Bool → ℕ → LinkWord
-joint true r = Chain r
-joint false r = Single r
-
-abbrev pub Unlinked : World → ℕ → Type 0
-Unlinked w r = w.ghost.spot r ≡ None
-
--- the link of r is that of the row at the place i
-abbrev pub LinkAt : World → ℕ → ℕ → Type 0
-LinkAt w i r = (suc i ≡ places w.ghost → w.memory.link r ≡ Nil)
-    × (suc i < places w.ghost → w.memory.link r ≡ joint (w.ghost.chained i) (w.ghost.path (suc i)))
-
--- the row r is at the place i
-abbrev pub On : World → ℕ → ℕ → Type 0
-On w i r = (i < places w.ghost) × (w.ghost.spot r ≡ Some i) × (w.ghost.path i ≡ r) × LinkAt w i r
-
--- the group stands in the history, and these are its answers: the replay's at its place
-pub record Stands (h : List Group) (g : Group) (answers : List Answer) : Type 0 where
-  pub before : List Group
-  pub behind : List Group
-  pub place : h ≡ (before ++ g ∷ []) ++ behind
-  pub right : answers ≡ answers_from (last_queue before) g.ops
-
--- the group of caller c that comes after these of its groups
-abbrev pub numbered : ℕ → List Group → List Op → Group
-numbered c earlier ops = record { caller = c; batch = length earlier; ops = ops }
-
--- Of caller c, which keeps k and whose last ended command was done: the group of that command is the last of its ended
--- ones, and stands in the history. Where no other command has started since, it stands between that command's start and end.
-pub record LastDone (h : List Group) (c : ℕ) (k : Caller) : Type 0 where
-  pub earlier : List Group
-  pub ops : List Op
-  pub last : k.mine ≡ earlier ++ numbered c earlier ops ∷ []
-  pub stands : Stands h (numbered c earlier ops) k.answers
-  pub timely : (end : ℕ) → k.ended_at ≡ Some end → (k.started_at ≤ length stands.before) × (length stands.before < end)
-
--- the answers that a caller keeps are those of its last ended command; after Full, and before any end, there are none
-pub record Kept (h : List Group) (c : ℕ) (k : Caller) : Type 0 where
-  pub done : k.outcome ≡ Some outcome.Done → LastDone h c k
-  pub none : k.outcome ≢ Some outcome.Done → k.answers ≡ []
+use Rattle.core_model.specs.Ghost.{places, World, Unlinked, On}
+use Rattle.core_model.specs.Kept.{Stands, Kept}
 
 pub data Fact : Type 0 where
   -- the row is the caller's, was never linked, and is none of those from the n-th own row on
@@ -127,6 +54,7 @@ module _ (z : Lane) where
     pub record Owns (r : ℕ) : Type 0 where
       pub at_home : z.home r ≡ c
       pub inside : r < z.rows
+      pub is_item : IsItem z r
       pub unlinked : Unlinked w r
       pub nil : w.memory.link r ≡ Nil
 

@@ -1,5 +1,5 @@
 -- The sizes of a lane, and who takes which row.
-use Rattle.std.specs.Prelude.{ℕ, ◌+◌, ◌*◌, ◌-◌, ◌/◌}
+use Rattle.std.specs.Prelude.{◌≡◌, ℕ, ◌+◌, ◌*◌, ◌-◌, ◌/◌, ◌<◌}
 use Rattle.bq_model.specs.declared.shape.Shape.{Shape}
 use Rattle.word_rows.specs.Sizes.{rows_of, items_of, own_rows_of}
 
@@ -19,6 +19,10 @@ pub record Lane : Type 0 where
 -- the i-th item row of caller c
 abbrev pub item : Lane → ℕ → ℕ → ℕ
 item z c i = z.first_row c + i
+
+-- the row is an item row of some caller
+abbrev pub IsItem : Lane → ℕ → Type 0
+IsItem z r = (c : ℕ) × (i : ℕ) × (c < z.callers) × (i < z.items) × (item z c i ≡ r)
 
 abbrev pub lane_of : Shape → Lane
 lane_of s = record {

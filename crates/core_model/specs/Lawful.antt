@@ -12,10 +12,11 @@ use Rattle.word_rows.specs.declared.head_word.HeadWord.TheVariants.{Node, Ann}
 use Rattle.word_rows.specs.declared.link_word.LinkWord.{LinkWord}
 use Rattle.word_rows.specs.declared.link_word.LinkWord.TheVariants.{Nil}
 use Rattle.core_model.specs.Functions.{run}
-use Rattle.core_model.specs.Lane.{Lane}
+use Rattle.core_model.specs.Lane.{Lane, IsItem}
 use Rattle.core_model.specs.State.{Caller, State, place}
 use Rattle.core_model.specs.Step.{own_group}
-use Rattle.core_model.specs.Facts.{Ghost, joint, Each, facts}
+use Rattle.core_model.specs.Ghost.{Ghost, joint}
+use Rattle.core_model.specs.Facts.{Each, facts}
 
 -- the values of the rows behind the shown head, first to last
 abbrev pub shown_queue : (ℕ → ℕ) → Ghost → List ℕ
@@ -29,6 +30,10 @@ pub record Listed (rows : ℕ) (link : ℕ → LinkWord) (path : ℕ → ℕ) (c
   -- each is at one place alone
   pub spots : (i : ℕ) → head ≤ i → i < suc (head + rest) → spot (path i) ≡ Some i
   pub inside : (i : ℕ) → i < suc (head + rest) → path i < rows
+
+-- the rows behind the shown head are item rows
+abbrev pub ItemRows : Lane → (ℕ → ℕ) → ℕ → ℕ → ℕ → Type 0
+ItemRows z path head rest shown = (i : ℕ) → head + shown < i → i < suc (head + rest) → IsItem z (path i)
 
 -- the word of the place i
 abbrev pub at : ℕ → (ℕ → ℕ) → ℕ → Place
@@ -68,6 +73,7 @@ pub record Lawful (z : Lane) (s : State) : Type 0 where
   pub history : IsProper z.callers s.history
   pub queue : last_queue s.history ≡ shown_queue s.memory.value ghost
   pub rows : Listed z.rows s.memory.link ghost.path ghost.chained ghost.spot ghost.head ghost.rest
+  pub item_rows : ItemRows z ghost.path ghost.head ghost.rest ghost.shown
   pub head : Headed z.first s.memory.head ghost.path ghost.head ghost.rest ghost.ann ghost.shown ghost.queued
   pub tail : Tailed z.first s.memory.tail ghost.path ghost.chained ghost.head ghost.rest ghost.tail
   -- each linked row came with an operation of the history

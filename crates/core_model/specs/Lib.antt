@@ -6,6 +6,8 @@ pub mod Step
 pub mod Start
 pub mod Kind
 pub mod Ranges
+pub mod Ghost
+pub mod Kept
 pub mod Facts
 pub mod Lawful
 pub mod Once

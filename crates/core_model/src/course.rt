@@ -55,22 +55,21 @@ impl Turn {
     pub fn course(self, found: Content) -> Course
         ensures { result ≡ course self found }
     {
+        let seen = tail_in(found);
         Course::GoesOn(match self {
             Turn::Idle => Turn::Idle,
             Turn::StoreValue(item) | Turn::EnqPass(item, ..) | Turn::EnqHead(item) => Turn::EnqTail(
                 item,
             ),
-            Turn::EnqTail(item) => Turn::EnqLink(item, tail_in(found)),
+            Turn::EnqTail(item) => Turn::EnqLink(item, seen),
             Turn::EnqLink(item, tail) => after_enq_link(item, tail, link_in(found)),
             Turn::LinkSingle(item, tail) if is_nil(link_in(found)) => Turn::EnqLast(tail, item.row),
             Turn::LinkSingle(item, _) => Turn::EnqTail(item),
             Turn::EnqLast(..) => return Course::Ends(Answer::Done),
             Turn::DeqHead => after_deq_head(head_in(found)),
             Turn::DeqLink(dummy) => return after_deq_link(dummy, link_in(found)),
-            Turn::DeqTail(dummy, row) if is_same_place(tail_in(found), dummy) => Turn::DeqPass(
-                dummy, row,
-            ),
-            Turn::DeqOver(dummy, _) if is_same_place(tail_in(found), dummy) => Turn::DeqHead,
+            Turn::DeqTail(dummy, row) if is_same_place(seen, dummy) => Turn::DeqPass(dummy, row),
+            Turn::DeqOver(dummy, _) if is_same_place(seen, dummy) => Turn::DeqHead,
             Turn::DeqTail(dummy, row) | Turn::DeqOver(dummy, row) => Turn::DeqValue(dummy, row),
             Turn::DeqPass(..) => Turn::DeqHead,
             Turn::DeqValue(dummy, row) => Turn::MoveHead(dummy, row, value_in(found)),

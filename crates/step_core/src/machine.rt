@@ -6,7 +6,7 @@ ghost use Rattle.bq_model.specs.Proper.{IsProper};
 ghost use Rattle.excess_count.specs.Excess.{enqueue_count};
 ghost use Rattle.word_rows.specs.Sizes.{items_of};
 ghost use Rattle.core_model.specs.declared.turn.Turn.TheVariants.{Idle};
-ghost use Rattle.core_model.specs.Facts.{LastDone};
+ghost use Rattle.core_model.specs.Kept.{LastDone};
 ghost use Rattle.core_model.specs.Lane.{lane_of};
 ghost use Rattle.core_model.specs.Kind.{kind_of};
 ghost use Rattle.core_model.specs.Step.{next};

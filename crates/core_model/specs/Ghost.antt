@@ -1,0 +1,52 @@
+-- The places of a lane's rows, and what else its words don't say.
+use Rattle.std.specs.Prelude.{◌≡◌, ℕ, suc, ◌+◌, ◌<◌, Bool, true, false, List, Option, Some, None}
+use Rattle.bq_model.specs.declared.group.Group.{Group}
+use Rattle.word_rows.specs.declared.link_word.LinkWord.{LinkWord}
+use Rattle.word_rows.specs.declared.link_word.LinkWord.TheVariants.{Nil, Single, Chain}
+use Rattle.core_model.specs.State.{Memory}
+
+-- What the words don't say of a lane. Each row that was ever linked has a place, from 0 on; the row at the place i has
+-- the count `first + i`.
+pub record Ghost : Type 0 where
+  -- the row at a place, and whether its link is a Chain
+  pub path : ℕ → ℕ
+  pub chained : ℕ → Bool
+  -- the place of a row since it was linked last; none while it is unused or taken
+  pub spot : ℕ → Option ℕ
+  -- the place of the dummy, how many rows lie behind it, and the place that TAIL names
+  pub head : ℕ
+  pub rest : ℕ
+  pub tail : ℕ
+  -- the announcement in HEAD, how many rows lie between the dummy and the shown head, and how many behind that
+  pub ann : Option ℕ
+  pub shown : ℕ
+  pub queued : ℕ
+  -- the running command of a caller stands in the history
+  pub landed : ℕ → Bool
+
+-- how many places there are
+abbrev pub places : Ghost → ℕ
+places g = suc (g.head + g.rest)
+
+-- the words and the history, with what they don't say
+pub record World : Type 0 where
+  pub memory : Memory
+  pub history : List Group
+  pub ghost : Ghost
+
+-- the link to the row r
+abbrev pub joint : Bool → ℕ → LinkWord
+joint true r = Chain r
+joint false r = Single r
+
+abbrev pub Unlinked : World → ℕ → Type 0
+Unlinked w r = w.ghost.spot r ≡ None
+
+-- the link of r is that of the row at the place i
+abbrev pub LinkAt : World → ℕ → ℕ → Type 0
+LinkAt w i r = (suc i ≡ places w.ghost → w.memory.link r ≡ Nil)
+    × (suc i < places w.ghost → w.memory.link r ≡ joint (w.ghost.chained i) (w.ghost.path (suc i)))
+
+-- the row r is at the place i
+abbrev pub On : World → ℕ → ℕ → Type 0
+On w i r = (i < places w.ghost) × (w.ghost.spot r ≡ Some i) × (w.ghost.path i ≡ r) × LinkAt w i r
