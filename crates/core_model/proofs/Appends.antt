@@ -1,5 +1,5 @@
 -- An enqueue links its row behind the last one.
-use Rattle.std.proofs.Common.{◌≡◌, ◌≢◌, ℕ, suc, ◌+◌, ◌<◌, ◌≤◌, Bool, true, false, cond, List, [], ◌∷◌, ◌++◌, length, sym, refl, ap, ◌∙◌, subst, arith, le_refl, length-append, Option, Some, None}
+use Rattle.std.proofs.Common.{◌≡◌, ◌≢◌, inl, ℕ, suc, ◌+◌, ◌*◌, ◌<◌, ◌≤◌, Bool, true, false, cond, List, [], ◌∷◌, ◌++◌, length, sym, refl, ap, ◌∙◌, subst, arith, le_refl, length-append, Option, Some, None}
 use Rattle.std.proofs.lemmas.List.{append-nil}
 use mathlib.Core.Logic.{dite}
 use native.Mathlib.Decide.{ℕ_discrete}
@@ -19,14 +19,16 @@ use Rattle.core_model.specs.Functions.{put, run}
 use Rattle.core_model.specs.Lane.{Lane, item, IsItem}
 use Rattle.core_model.specs.State.{Memory, Caller, State}
 use Rattle.core_model.specs.Step.{own_group, turned, step_with, step_at}
-use Rattle.core_model.specs.Ghost.{Ghost, World, places, joint, Unlinked, LinkAt, On}
+use Rattle.core_model.specs.Ghost.{at, Ghost, World, places, joint, Unlinked, LinkAt, On}
 use Rattle.core_model.specs.Kept.{Kept}
 use Rattle.core_model.specs.Facts.{linked, owns, holds_item, is_op, landed_is, Holds, Each, turn_facts, facts}
-use Rattle.core_model.specs.Lawful.{shown_queue, at, head_word, Listed, ItemRows, Headed, Tailed, OwnGroups, Lawful}
+use Rattle.core_model.specs.Lawful.{shown_queue, head_word, Listed, ItemRows, Headed, Tailed, Announced, IsTold, Waits, OwnGroups, Lawful}
 use Rattle.core_model.proofs.Puts.{put_here, put_else, run_last, run_same}
 use Rattle.core_model.proofs.Groups.{mine-push_other}
-use Rattle.core_model.proofs.Stays.{world, Grows, owns_stays, kept_stays}
-use Rattle.core_model.proofs.Keeps.{known, quiet, keeps, changed, kept_turned, lands_proper, lands_operations, lands_mine}
+use Rattle.core_model.proofs.Stays.{world, anns_same, Grows, owns_stays, kept_stays}
+use Rattle.core_model.proofs.Keeps.{kept_turned, known, quiet, keeps, changed, drafts_same, told_on, waits_on, waits_there, same_unmade, lands_proper, lands_operations, lands_mine}
+use Rattle.core_model.specs.Batches.{owner_of}
+use Rattle.core_model.proofs.Announces.{stages_moved, told_same, pending_same, links_put}
 use Rattle.core_model.proofs.Loads.{is_last}
 
 module _ (z : Lane) (s : State) (L : Lawful z s) (c : ℕ) where
@@ -151,7 +153,7 @@ module _ (z : Lane) (s : State) (L : Lawful z s) (c : ℕ) where
       named = L.tail.named ∙ ap (λ (r : ℕ). record { row = r; count = z.first + G.tail }) (sym (old_path G.tail (omega arith)));
       after_head = b;
       within = omega arith;
-      lags = λ _. let same : G.tail ≡ e = omega arith in (ap chained' same ∙ put_here G.chained e false, omega arith);
+      lags = λ _ _. omega arith;
     }
 
     queue' : last_queue (s.history ++ own ∷ []) ≡ shown_queue s.memory.value G'
@@ -169,7 +171,7 @@ module _ (z : Lane) (s : State) (L : Lawful z s) (c : ℕ) where
           (λ apart. let inside = on.0 in old_link i r (omega arith) apart on.1 (on.3.1 (omega arith))),
     )
 
-    grows : Grows (λ r. r ≡ x.row) (world s G) W
+    grows : Grows z (λ r. r ≡ x.row) (world s G) W
     grows = record {
       longer = omega arith;
       heads = le_refl _;
@@ -177,10 +179,11 @@ module _ (z : Lane) (s : State) (L : Lawful z s) (c : ℕ) where
       path_same = old_path;
       chained_same = λ i below. put_else G.chained e false i (λ is. omega arith);
       spot_own = λ r u apart. put_else G.spot x.row (Some n) r apart ∙ u;
-      on_same = λ i r on. (put_else G.spot x.row (Some n) r (placed r i on.1) ∙ on.1, linked_on i r on);
+      on_same = λ i r on. (put_else G.spot x.row (Some n) r (placed r i on.1) ∙ on.1, linked_on i r on, refl);
       link_own = λ r u _. own_link r u;
       value_own = λ _ _ _. refl;
       value_path = λ _ _ _. refl;
+      anns = anns_same z (world s G) W refl refl refl refl refl refl;
       more = (own ∷ [], refl);
     }
 
@@ -188,7 +191,7 @@ module _ (z : Lane) (s : State) (L : Lawful z s) (c : ℕ) where
     now = (L.kept_facts c).1.0
 
     kept' : Kept (s.history ++ own ∷ []) c k'
-    kept' = kept_turned (s.history ++ own ∷ []) c (s.callers c) (EnqLast p x.row) (kept_stays z (λ r. r ≡ x.row) (world s G) W grows c (s.callers c) (L.kept_facts c).1.1.0)
+    kept' = kept_turned (s.history ++ own ∷ []) c (s.callers c) (EnqLast p x.row) (s.callers c).values (kept_stays z (λ r. r ≡ x.row) (world s G) W grows c (s.callers c) (L.kept_facts c).1.1.0)
 
     knows' : Each z W c (facts z c k')
     knows' = (
@@ -198,7 +201,7 @@ module _ (z : Lane) (s : State) (L : Lawful z s) (c : ℕ) where
         (
           kept',
           (
-            put_here G.landed c true,
+            (put_here G.landed c true, off.1),
             (
               ((let here = count_is in omega arith), o.0.inside, λ i is. let here = count_is in let same : i ≡ e = omega arith in (omega arith, ap (λ (y : ℕ). path' (suc y)) same ∙ new_path)),
               (
@@ -212,20 +215,43 @@ module _ (z : Lane) (s : State) (L : Lawful z s) (c : ℕ) where
     )
 
     groups' : OwnGroups c (s.history ++ own ∷ []) k' (put G.landed c true c)
-    groups' = lands_mine z s L c (Enq x.value) off op ∙ ap (λ (b : Bool). (s.callers c).mine ++ cond b (own ∷ []) []) (sym (put_here G.landed c true))
+    groups' = lands_mine z s L c (Enq x.value) off.0 op ∙ ap (λ (b : Bool). (s.callers c).mine ++ cond b (own ∷ []) []) (sym (put_here G.landed c true))
+
+    tail_is : G.tail ≡ e
+    tail_is = let within = L.tail.within in let late = seen in let here = count_is in omega arith
+
+    announced' : Announced z memory' G'
+    announced' = let at_end = tail_is in stages_moved z.first (z.callers * z.callers) G.stage G.ann s.memory.said s.memory.old_tail G.path path' G.chained chained' G.cause G.head G.head (G.head + G.rest) (G.head + suc G.rest) G.shown G.shown G.tail G.tail
+        (omega arith) (omega arith) (λ i below. old_path i (omega arith)) (λ i below. put_else G.chained e false i (λ is. omega arith)) (le_refl _) (λ _ _. (refl, refl))
+        (λ a i at f. (L.announced.standing a i at f).tails) (λ a i f none. (L.announced.unrecorded a i f none).1)
+        (λ _ is. absurd (differ (sym is ∙ (ap chained' tail_is ∙ put_here G.chained e false)))) L.announced where
+          differ : true ≡ false → ⊥
+          differ y = cc y
+
+    told' : (a : ℕ) → IsTold z memory' G' (put s.callers c k') a
+    told' = told_on z s L c memory' G' (EnqLast p x.row) (inl off.1) (λ a at_head. told_same s.memory.value s.memory.value G.path path' (G.stage a) (s.memory.said a) (owner_of z a) (s.callers (owner_of z a))
+        (λ i j d from below. let inside = (L.announced.bound a i d).within in ap s.memory.value (old_path j (omega arith))) (L.told a at_head))
+
+    pending' : (a : ℕ) → Waits z memory' G' (put s.callers c k') a
+    pending' = waits_on z s L c memory' G' (EnqLast p x.row) (λ a waits. let P = L.pending a waits in
+        pending_same z s.memory.link link' s.memory.value s.memory.value G.spot spot' G.chain (G.landed (owner_of z a)) (put G.landed c true (owner_of z a)) (s.memory.said a) (owner_of z a) (s.callers (owner_of z a))
+        (λ i below. own_link (G.chain i) (P.unlinked i below)) (λ _ _. refl)
+        (λ i below. put_else G.spot x.row (Some n) (G.chain i) (λ is. off.1 a (waits_there z s L c a waits) (sym (P.homes i below) ∙ (ap z.home is ∙ o.0.at_home))) ∙ P.unlinked i below)
+        (put_else G.landed c true (owner_of z a) (off.1 a (waits_there z s L c a waits))) P)
 
     pub appended : Lawful z (changed s c memory' (own_group c (s.callers c) ∷ []) k')
     appended = keeps z s L c memory' (own ∷ []) G' k' (λ r. r ≡ x.row) (λ r is. ap z.home is ∙ o.0.at_home) grows
-        (λ d apart. (put_else G.landed c true d apart, mine-push_other s.history own d apart))
-        (lands_proper z s L c (Enq x.value) off op) queue' listed' items' headed' tailed'
-        (let more = lands_operations z s L c (Enq x.value) off op in let was = L.counts in omega arith)
+        (λ d apart. (put_else G.landed c true d apart, mine-push_other s.history own d apart, drafts_same z (world s G) W refl refl refl d))
+        (lands_proper z s L c (Enq x.value) off.0 op) queue' listed' items' headed' tailed'
+        (let more = lands_operations z s L c (Enq x.value) off.0 op in let was = L.counts in omega arith)
+        (links_put z.rows s.memory.link p.row (Single x.row) o.0.inside L.links) announced' told' pending' (same_unmade z s L c k' refl)
         groups' (L.allowed c) knows'
 
-  link_single : (x : Item) (p : Place) (l : LinkWord) → s.memory.link p.row ≡ l → Each z (world s L.ghost) c (turn_facts z c (s.callers c) (LinkSingle x p)) → Lawful z (step_with s c (LinkSingle x p) (OfLink l))
+  link_single : (x : Item) (p : Place) (l : LinkWord) → s.memory.link p.row ≡ l → Each z (world s L.ghost) c (turn_facts z c (s.callers c) (LinkSingle x p)) → Lawful z (step_with z s c (LinkSingle x p) (OfLink l))
   link_single x p Nil is (off, (op, (o, (h, (on, (seen, rest)))))) = appended x p off op o h on seen is
   link_single x p (Single r) is (off, (op, (o, (h, rest)))) = quiet z s L c (EnqTail x) (Link p.row) (OfLink (Single r)) (ap OfLink is) (off, (op, (o, (h, tt))))
   link_single x p (Chain r) is (off, (op, (o, (h, rest)))) = quiet z s L c (EnqTail x) (Link p.row) (OfLink (Chain r)) (ap OfLink is) (off, (op, (o, (h, tt))))
   link_single x p Shut is (off, (op, (o, (h, rest)))) = quiet z s L c (EnqTail x) (Link p.row) (OfLink Shut) (ap OfLink is) (off, (op, (o, (h, tt))))
 
-  pub keeps_link_single : (x : Item) (p : Place) → (s.callers c).turn ≡ LinkSingle x p → Lawful z (step_at s c (LinkSingle x p))
+  pub keeps_link_single : (x : Item) (p : Place) → (s.callers c).turn ≡ LinkSingle x p → Lawful z (step_at z s c (LinkSingle x p))
   keeps_link_single x p is = link_single x p (s.memory.link p.row) refl (known z s L c (LinkSingle x p) is)

@@ -1,12 +1,13 @@
 -- What a lawful lane says of the commands that have ended.
-use Rattle.std.proofs.Common.{◌≡◌, ◌≢◌, ℕ, ◌+◌, ◌*◌, ◌^◌, ◌<◌, Bool, true, false, cond, List, [], ◌∷◌, ◌++◌, length, refl, sym, ap, ◌∙◌, subst, arith, Option, Some, None, IsSome, ltb, ◌↔◌}
+use Rattle.std.proofs.Common.{◌≡◌, ◌≢◌, ℕ, ◌+◌, ◌*◌, ◌^◌, ◌<◌, ◌≤◌, Bool, true, false, cond, List, [], ◌∷◌, ◌++◌, length, refl, sym, ap, ◌∙◌, subst, arith, Option, Some, None, IsSome, ltb, leb, ◌&&◌, inl, inr, ⊎_elim, ◌↔◌}
 use Rattle.std.proofs.lemmas.List.{append-nil}
-use Rattle.std.proofs.lemmas.Bool.{ltb-true, ltb-false}
+use Rattle.std.proofs.lemmas.Bool.{ltb-true, lt-ltb, leb-true, leb-false}
 use Rattle.bq_model.specs.declared.op.Op.{Op}
 use Rattle.bq_model.specs.declared.op.Op.TheVariants.{Enq, Deq}
 use Rattle.bq_model.specs.History.{operations}
 use Rattle.excess_count.specs.Excess.{enqueue_count}
-use Rattle.core_model.specs.Start.{begun, started, refused}
+use Rattle.core_model.specs.Start.{IsCommand, LacksRows, anns_taken, first_turn, begun, started, refused}
+use Rattle.core_model.specs.Batches.{many_count}
 use Rattle.bq_model.specs.declared.group.Group.{Group}
 use Rattle.bq_model.specs.Own.{mine}
 use Rattle.bq_model.specs.Proper.{IsProper}
@@ -28,22 +29,40 @@ use Rattle.core_model.proofs.Keeps.{known}
 module _ (z : Lane) (s : State) (L : Lawful z s) where
   -- the groups of a caller that runs no command are those of its ended ones
   pub idle_groups : (c : ℕ) → (s.callers c).turn ≡ Idle → mine s.history c ≡ (s.callers c).mine
-  idle_groups c idle = L.own_groups c ∙ (ap (λ (b : Bool). (s.callers c).mine ++ cond b (own_group c (s.callers c) ∷ []) []) (known z s L c Idle idle).0 ∙ append-nil (s.callers c).mine)
+  idle_groups c idle = L.own_groups c ∙ (ap (λ (b : Bool). (s.callers c).mine ++ cond b (own_group c (s.callers c) ∷ []) []) (known z s L c Idle idle).0.0 ∙ append-nil (s.callers c).mine)
 
-  -- a command of an idle caller ends with Full at once exactly where its enqueues would be more than the item rows
-  pub full_exactly : (c : ℕ) (op : Op) → (s.callers c).turn ≡ Idle
-      → ((begun z (length s.history) c (s.callers c) op).turn ≡ Idle) ↔ (z.items < enqueue_count (operations (mine s.history c)) + enqueue_count (op ∷ []))
-  full_exactly c op idle = by op where
-    count : (s.callers c).taken ≡ enqueue_count (operations (mine s.history c)) + 0
-    count = (L.allowed c).rows ∙ (λ i. enqueue_count (operations (sym (idle_groups c idle) i)) + enqueue_count ((known z s L c Idle idle).1.0.0 i))
+  -- a command of an idle caller ends with Full at once exactly where no rows, or no announcement, are left for it
+  pub full_exactly : (c : ℕ) (ops : List Op) → IsCommand ops → (s.callers c).turn ≡ Idle
+      → ((begun z (length s.history) c (s.callers c) ops).turn ≡ Idle) ↔ LacksRows z (mine s.history c) ops
+  full_exactly c ops is idle = by (leb ((s.callers c).taken + enqueue_count ops) z.items) (leb ((s.callers c).made + anns_taken ops) z.callers) refl refl where
+    rows : (s.callers c).taken ≡ enqueue_count (operations (mine s.history c)) + 0
+    rows = (L.allowed c).rows ∙ (λ i. enqueue_count (operations (sym (idle_groups c idle) i)) + enqueue_count ((known z s L c Idle idle).1.0.0 i))
 
-    enq : (v : ℕ) (b : Bool) → ltb (s.callers c).taken z.items ≡ b → ((cond b (started z (length s.history) c (s.callers c) (Enq v)) (refused z (length s.history) c (s.callers c))).turn ≡ Idle) ↔ (z.items < enqueue_count (operations (mine s.history c)) + 1)
-    enq v true row = let below = ltb-true _ _ row in let n = count in (λ e. absurd (cc e), λ more. absurd (omega arith))
-    enq v false row = let above = ltb-false _ _ row in let n = count in (λ _. omega arith, λ _. idle)
+    anns : (s.callers c).made ≡ many_count (mine s.history c) + 0
+    anns = (L.allowed c).anns ∙ (λ i. many_count (sym (idle_groups c idle) i) + anns_taken ((known z s L c Idle idle).1.0.0 i))
 
-    by : (op : Op) → ((begun z (length s.history) c (s.callers c) op).turn ≡ Idle) ↔ (z.items < enqueue_count (operations (mine s.history c)) + enqueue_count (op ∷ []))
-    by (Enq v) = enq v (ltb (s.callers c).taken z.items) refl
-    by Deq = let most = (L.allowed c).has_rows in let n = count in (λ e. absurd (cc e), λ more. absurd (omega arith))
+    starts : (xs : List Op) → 0 < length xs → first_turn z c (s.callers c) xs ≡ Idle → ⊥
+    starts [] some e = absurd (omega arith)
+    starts (Enq v ∷ []) some e = cc e
+    starts (Deq ∷ []) some e = cc e
+    starts (op ∷ op' ∷ xs) some e = cc e
+
+    more_anns : (b : Bool) → ltb 1 (length ops) ≡ b → z.callers < (s.callers c).made + cond b 1 0 → (1 < length ops) × (z.callers ≤ many_count (mine s.history c))
+    more_anns true many more = let n = anns in (ltb-true _ _ many, omega arith)
+    more_anns false one more = let most = (L.allowed c).has_anns in absurd (omega arith)
+
+    one_ann : 1 < length ops → anns_taken ops ≡ 1
+    one_ann many = ap (λ (b : Bool). cond b 1 0) (lt-ltb 1 (length ops) many)
+
+    by : (b d : Bool) → leb ((s.callers c).taken + enqueue_count ops) z.items ≡ b → leb ((s.callers c).made + anns_taken ops) z.callers ≡ d
+        → ((cond (b && d) (started z (length s.history) c (s.callers c) ops) (refused z (length s.history) c (s.callers c))).turn ≡ Idle) ↔ LacksRows z (mine s.history c) ops
+    by true true row ann = let below = leb-true _ _ row in let within = leb-true _ _ ann in let n = rows in let m = anns in (
+      (λ e. absurd (starts ops is.0 e)),
+      λ lacks. ⊎_elim (λ (more : z.items < enqueue_count (operations (mine s.history c)) + enqueue_count ops). absurd (omega arith))
+          (λ (many : (1 < length ops) × (z.callers ≤ many_count (mine s.history c))). let one = one_ann many.0 in let most = many.1 in absurd (omega arith)) lacks,
+    )
+    by true false row ann = let above = leb-false _ _ ann in ((λ _. inr (more_anns (ltb 1 (length ops)) refl above)), λ _. idle)
+    by false d row ann = let above = leb-false _ _ row in let n = rows in ((λ _. inl (omega arith)), λ _. idle)
 
   pub one_place : (before behind : List Group) (g : Group) → s.history ≡ (before ++ g ∷ []) ++ behind → times g s.history ≡ 1
   one_place before behind g is = ap (times g) is ∙ stands_once z.callers before behind g (subst (IsProper z.callers) is L.history)

@@ -1,5 +1,5 @@
 -- Dequeues: the head moves by one, or the queue is found empty.
-use Rattle.std.proofs.Common.{◌≡◌, ℕ, zero, suc, ◌+◌, ◌<◌, ◌≤◌, Bool, true, false, cond, List, [], ◌∷◌, ◌++◌, length, sym, refl, ap, ◌∙◌, subst, arith, le_refl, length-append, Some, None, IsSome}
+use Rattle.std.proofs.Common.{◌≡◌, ℕ, zero, suc, ◌+◌, ◌*◌, ◌<◌, ◌≤◌, Bool, true, false, cond, List, [], ◌∷◌, ◌++◌, length, sym, refl, ap, ◌∙◌, subst, arith, le_refl, length-append, Some, None, IsSome}
 use Rattle.bq_model.specs.declared.op.Op.TheVariants.{Deq}
 use Rattle.bq_model.specs.declared.op.Answer.{Answer}
 use Rattle.bq_model.specs.declared.op.Answer.TheVariants.{Got, Empty}
@@ -15,18 +15,18 @@ use Rattle.word_rows.specs.declared.link_word.LinkWord.TheVariants.{Nil, Single,
 use Rattle.word_rows.specs.declared.location.Location.TheVariants.{Head, Link}
 use Rattle.word_rows.specs.declared.content.Content.TheVariants.{OfHead, OfLink}
 use Rattle.core_model.specs.declared.turn.Turn.TheVariants.{DeqHead, DeqLink, MoveHead}
-use Rattle.core_model.specs.declared.course.Course.TheVariants.{GoesOn, Ends}
 use Rattle.core_model.specs.Functions.{run}
 use Rattle.core_model.specs.Lane.{Lane, item}
 use Rattle.core_model.specs.State.{Memory, Caller, State, write}
-use Rattle.core_model.specs.Step.{is_node, behind, own_group, ended, followed, step_with, step_at}
-use Rattle.core_model.specs.Ghost.{Ghost, World}
+use Rattle.core_model.specs.Step.{is_node, behind, own_group, turned, ended, step_with, step_at}
+use Rattle.core_model.specs.Ghost.{at, Ghost, World}
 use Rattle.core_model.specs.Kept.{Kept}
 use Rattle.core_model.specs.Facts.{next_is, next_value, landed_is, is_op, Holds, Each, turn_facts, facts}
-use Rattle.core_model.specs.Lawful.{shown_queue, at, head_word, Listed, ItemRows, Headed, Tailed, Lawful}
+use Rattle.core_model.specs.Lawful.{shown_queue, head_word, Listed, ItemRows, Headed, Tailed, Announced, Lawful}
 use Rattle.core_model.proofs.Groups.{mine-push_other}
-use Rattle.core_model.proofs.Stays.{world, Grows, owns_stays}
-use Rattle.core_model.proofs.Keeps.{known, quiet, keeps, changed, same_places, write_read, grows_history, allowed_end, lands_proper, lands_operations, lands_groups, lands_kept}
+use Rattle.core_model.proofs.Stays.{world, some_none, anns_moved, Grows, owns_stays}
+use Rattle.core_model.proofs.Keeps.{known, quiet, keeps, changed, same_places, write_read, grows_history, drafts_same, told_plain, waits_plain, waits_there, same_unmade, allowed_end, lands_proper, lands_operations, lands_groups, lands_kept}
+use Rattle.core_model.proofs.Announces.{stages_moved}
 use Rattle.core_model.proofs.Loads.{node_found, is_last, deq_single, deq_chain, deq_shut}
 
 module _ (z : Lane) (s : State) (L : Lawful z s) (c : ℕ) where
@@ -40,7 +40,7 @@ module _ (z : Lane) (s : State) (L : Lawful z s) (c : ℕ) where
   last xs = ended (length (s.history ++ own_group c (s.callers c) ∷ [])) c (s.callers c) xs
 
   -- what the caller of a dequeue knows as it ends
-  rest_facts : (w : World) (xs : List Answer) → (grows : Grows (λ _. ⊥) (world s L.ghost) w) → w.ghost.landed c ≡ false → (s.callers c).started_at ≤ length w.history
+  rest_facts : (w : World) (xs : List Answer) → (grows : Grows z (λ _. ⊥) (world s L.ghost) w) → Holds z w c (landed_is false) → (s.callers c).started_at ≤ length w.history
       → Kept w.history c (last xs) → Each z w c (facts z c (last xs))
   rest_facts w xs grows off since kept = let f = L.kept_facts c in
       ((λ i from below known. let o = f.0 i from below known in owns_stays z (λ _. ⊥) (world s L.ghost) w grows c (item z c i) (λ x. x) o), (since, (kept, (off, ((refl, λ _. some), tt))))) where
@@ -57,6 +57,9 @@ module _ (z : Lane) (s : State) (L : Lawful z s) (c : ℕ) where
 
     no_ann : G.ann ≡ None
     no_ann = (node_found z s L c p head).0
+
+    none_stands : (a : ℕ) → G.ann ≡ Some a → ⊥
+    none_stands a at = some_none (sym at ∙ no_ann)
 
     -- nothing lies between the dummy and the shown head
     bare : G.shown ≡ 0
@@ -84,7 +87,7 @@ module _ (z : Lane) (s : State) (L : Lawful z s) (c : ℕ) where
     same_end : suc G.head + fewer.0 ≡ G.head + G.rest
     same_end = let e = fewer.1 in omega arith
 
-    grows : Grows (λ _. ⊥) (world s G) W
+    grows : Grows z (λ _. ⊥) (world s G) W
     grows = let e = same_end in record {
       longer = omega arith;
       heads = omega arith;
@@ -92,10 +95,11 @@ module _ (z : Lane) (s : State) (L : Lawful z s) (c : ℕ) where
       path_same = λ _ _. refl;
       chained_same = λ _ _. refl;
       spot_own = λ _ u _. u;
-      on_same = λ i r on. (on.1, ((λ x. on.3.0 (omega arith)), λ x. on.3.1 (omega arith)));
+      on_same = λ i r on. (on.1, ((λ x. on.3.0 (omega arith)), λ x. on.3.1 (omega arith)), refl);
       link_own = λ _ _ _. refl;
       value_own = λ _ _ _. refl;
       value_path = λ _ _ _. refl;
+      anns = anns_moved z (world s G) W refl (λ _ _. refl) (λ _ _ _ e. e) (λ a at. absurd (none_stands a at));
       more = (own ∷ [], refl);
     }
 
@@ -136,38 +140,46 @@ module _ (z : Lane) (s : State) (L : Lawful z s) (c : ℕ) where
       named = L.tail.named;
       after_head = omega arith;
       within = omega arith;
-      lags = λ below. let b = L.tail.lags (omega arith) in let b1 = b.1 in (b.0, omega arith);
+      lags = λ below single. let b = L.tail.lags (omega arith) single in omega arith;
     }
 
+    announced' : Announced z memory' G'
+    announced' = let e = same_end in stages_moved z.first (z.callers * z.callers) G.stage G.ann s.memory.said s.memory.old_tail G.path G.path G.chained G.chained G.cause G.head (suc G.head) (G.head + G.rest) (suc G.head + fewer.0) G.shown G.shown G.tail G.tail
+        (omega arith) (omega arith) (λ _ _. refl) (λ _ _. refl) (le_refl _) (λ a at. absurd (none_stands a at)) (λ a i at _. absurd (none_stands a at))
+        (λ a i f none. absurd (none_stands a (L.announced.unrecorded a i f none).0))
+        (λ below is. let x = L.announced.lags (omega arith) is in absurd (none_stands x.0 x.2)) L.announced
+
     pub moved : Lawful z (changed s c memory' (own_group c (s.callers c) ∷ []) (last (Got v ∷ [])))
-    moved = keeps z s L c memory' (own ∷ []) G' (last (Got v ∷ [])) (λ _. ⊥) (λ _ x. absurd x) grows (λ d apart. (refl, mine-push_other s.history own d apart))
-        (lands_proper z s L c Deq off op) queue' listed' items' headed' tailed'
-        (let e = same_end in let more = lands_operations z s L c Deq off op in let was = L.counts in omega arith)
-        (lands_groups z s L c Deq off op (Got v ∷ []) right)
+    moved = keeps z s L c memory' (own ∷ []) G' (last (Got v ∷ [])) (λ _. ⊥) (λ _ x. absurd x) grows (λ d apart. (refl, mine-push_other s.history own d apart, drafts_same z (world s G) W refl refl refl d))
+        (lands_proper z s L c Deq off.0 op) queue' listed' items' headed' tailed'
+        (let e = same_end in let more = lands_operations z s L c Deq off.0 op in let was = L.counts in omega arith)
+        L.links announced' (λ a at. absurd (none_stands a at)) (λ a waits. absurd (none_stands a (L.announced.waits a waits).0)) (same_unmade z s L c (last (Got v ∷ [])) refl)
+        (lands_groups z s L c Deq off.0 op (Got v ∷ []) right)
         (allowed_end z c (s.callers c) (L.allowed c))
-        (rest_facts W (Got v ∷ []) grows off since_end (lands_kept z s L c Deq off op (Got v ∷ []) right))
+        (rest_facts W (Got v ∷ []) grows off since_end (lands_kept z s L c Deq off.0 op (Got v ∷ []) right))
 
   move_head : (p : Place) (n v : ℕ) (x : HeadWord) → s.memory.head ≡ x → (b : Bool) → is_node x p ≡ b → Each z (world s L.ghost) c (turn_facts z c (s.callers c) (MoveHead p n v))
       → Lawful z (changed s c (write s.memory Head (cond b (OfHead (Node (behind p n))) (OfHead x))) (cond b (own ∷ []) [])
-      (followed (length (s.history ++ cond b (own ∷ []) [])) c (s.callers c) (cond b (Ends (Got v)) (GoesOn DeqHead))))
+      (cond b (ended (length (s.history ++ cond b (own ∷ []) [])) c (s.callers c) (Got v ∷ [])) (turned (s.callers c) DeqHead)))
   move_head p n v x is false apart f = quiet z s L c DeqHead Head (OfHead x) (ap OfHead is) (f.0, (f.1.0, tt))
   move_head p n v (Node q) is true same f = moved p n v f.0 f.1.0 f.1.1.0 f.1.1.1.0 f.1.1.1.1.0 (is ∙ ap Node (same_places q p same))
   move_head p n v (Ann a m) is true same f = absurd (cc same)
 
-  pub keeps_move_head : (p : Place) (n v : ℕ) → (s.callers c).turn ≡ MoveHead p n v → Lawful z (step_at s c (MoveHead p n v))
+  pub keeps_move_head : (p : Place) (n v : ℕ) → (s.callers c).turn ≡ MoveHead p n v → Lawful z (step_at z s c (MoveHead p n v))
   keeps_move_head p n v is = move_head p n v s.memory.head refl (is_node s.memory.head p) refl (known z s L c (MoveHead p n v) is)
 
   -- the queue is empty: the command lands and ends
-  empty : (p : Place) → s.memory.link p.row ≡ Nil → Each z (world s L.ghost) c (turn_facts z c (s.callers c) (DeqLink p)) → Lawful z (step_with s c (DeqLink p) (OfLink Nil))
+  empty : (p : Place) → s.memory.link p.row ≡ Nil → Each z (world s L.ghost) c (turn_facts z c (s.callers c) (DeqLink p)) → Lawful z (step_with z s c (DeqLink p) (OfLink Nil))
   empty p nil (off, (op, (f, (seen, rest)))) = subst (λ (m : Memory). Lawful z (changed s c m (own ∷ []) (last (Empty ∷ [])))) (sym (ap (write s.memory (Link p.row)) (ap OfLink (sym nil)) ∙ write_read s.memory (Link p.row)))
-      (keeps z s L c s.memory (own ∷ []) G (last (Empty ∷ [])) (λ _. ⊥) (λ _ x. absurd x) grows (λ d apart. (refl, mine-push_other s.history own d apart))
-      (lands_proper z s L c Deq off op) queue' L.rows L.item_rows L.head L.tail
-      (let more = lands_operations z s L c Deq off op in let was = L.counts in omega arith)
-      (lands_groups z s L c Deq off op (Empty ∷ []) right)
+      (keeps z s L c s.memory (own ∷ []) G (last (Empty ∷ [])) (λ _. ⊥) (λ _ x. absurd x) grows (λ d apart. (refl, mine-push_other s.history own d apart, drafts_same z (world s G) record { memory = s.memory; history = s.history ++ own ∷ []; ghost = G } refl refl refl d))
+      (lands_proper z s L c Deq off.0 op) queue' L.rows L.item_rows L.head L.tail
+      (let more = lands_operations z s L c Deq off.0 op in let was = L.counts in omega arith)
+      L.links L.announced (told_plain z s L c s.memory G (last (Empty ∷ [])) off.1 L.told) (waits_plain z s L c s.memory G (last (Empty ∷ [])) off.1 (waits_there z s L c) L.pending) (same_unmade z s L c (last (Empty ∷ [])) refl)
+      (lands_groups z s L c Deq off.0 op (Empty ∷ []) right)
       (allowed_end z c (s.callers c) (L.allowed c))
-      (rest_facts (record { memory = s.memory; history = s.history ++ own ∷ []; ghost = G }) (Empty ∷ []) grows off since_end (lands_kept z s L c Deq off op (Empty ∷ []) right))) where
-        grows : Grows (λ _. ⊥) (world s G) record { memory = s.memory; history = s.history ++ own ∷ []; ghost = G }
-        grows = grows_history s G G.landed (own ∷ [])
+      (rest_facts (record { memory = s.memory; history = s.history ++ own ∷ []; ghost = G }) (Empty ∷ []) grows off since_end (lands_kept z s L c Deq off.0 op (Empty ∷ []) right))) where
+        grows : Grows z (λ _. ⊥) (world s G) record { memory = s.memory; history = s.history ++ own ∷ []; ghost = G }
+        grows = grows_history z s G G.landed (own ∷ [])
 
         none : last_queue s.history ≡ []
         none = let end = is_last z s L c p f nil in let seen' = seen in let count = f.1 in let fits = L.head.fits in L.queue ∙ ap (run (λ i. s.memory.value (G.path i)) (suc (G.head + G.shown))) (let e : G.queued ≡ 0 = omega arith in e)
@@ -178,11 +190,11 @@ module _ (z : Lane) (s : State) (L : Lawful z s) (c : ℕ) where
         right : Empty ∷ [] ≡ answers_from (last_queue s.history) (Deq ∷ [])
         right = ap (λ (q : List ℕ). answers_from q (Deq ∷ [])) (sym none)
 
-  deq_link : (p : Place) (x : LinkWord) → s.memory.link p.row ≡ x → Each z (world s L.ghost) c (turn_facts z c (s.callers c) (DeqLink p)) → Lawful z (step_with s c (DeqLink p) (OfLink x))
+  deq_link : (p : Place) (x : LinkWord) → s.memory.link p.row ≡ x → Each z (world s L.ghost) c (turn_facts z c (s.callers c) (DeqLink p)) → Lawful z (step_with z s c (DeqLink p) (OfLink x))
   deq_link p Nil is f = empty p is f
   deq_link p (Single n) is f = deq_single z s L c p n is f
   deq_link p (Chain n) is f = deq_chain z s L c p n is f
   deq_link p Shut is f = deq_shut z s L c p is f
 
-  pub keeps_deq_link : (p : Place) → (s.callers c).turn ≡ DeqLink p → Lawful z (step_at s c (DeqLink p))
+  pub keeps_deq_link : (p : Place) → (s.callers c).turn ≡ DeqLink p → Lawful z (step_at z s c (DeqLink p))
   keeps_deq_link p is = deq_link p (s.memory.link p.row) refl (known z s L c (DeqLink p) is)

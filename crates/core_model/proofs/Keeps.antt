@@ -1,5 +1,5 @@
 -- A step keeps the lane lawful where the parts are shown of the new world; a quiet step changes its caller's turn alone.
-use Rattle.std.proofs.Common.{◌≡◌, ◌≢◌, ℕ, suc, ◌+◌, ◌<◌, ◌≤◌, eqb, Bool, true, false, cond, List, [], ◌∷◌, ◌++◌, length, sym, refl, ap, ◌∙◌, subst, arith, le_refl, length-append, Some, IsSome}
+use Rattle.std.proofs.Common.{◌≡◌, ◌≢◌, ◌⊎◌, inl, inr, ℕ, suc, ◌+◌, ◌<◌, ◌≤◌, eqb, Bool, true, false, cond, List, [], ◌∷◌, ◌++◌, length, sym, refl, ap, ◌∙◌, subst, arith, le_refl, length-append, Option, Some, IsSome}
 use Rattle.std.proofs.lemmas.List.{append-nil}
 use Rattle.std.proofs.lemmas.Bool.{eqb-true, and_parts}
 use Rattle.bq_model.specs.declared.op.Op.{Op}
@@ -10,21 +10,27 @@ use Rattle.bq_model.specs.History.{operations, last_queue}
 use Rattle.bq_model.specs.Own.{mine}
 use Rattle.bq_model.specs.Proper.{IsProper}
 use Rattle.word_rows.specs.declared.place.Place.{Place}
+use Rattle.word_rows.specs.declared.location.AnnField.TheVariants as field
 use Rattle.word_rows.specs.declared.location.Location.{Location}
 use Rattle.word_rows.specs.declared.location.Location.TheVariants.{Head, Tail, Link, Value, Mark, NodeHazard, AnnHazard, AnnWord}
 use Rattle.word_rows.specs.declared.content.Content.{Content}
+use Rattle.core_model.specs.declared.turn.Notice.{Notice}
+use Rattle.core_model.specs.declared.turn.Back.{Back}
+use Rattle.core_model.specs.declared.turn.Back.TheVariants as back
 use Rattle.core_model.specs.declared.turn.Turn.{Turn}
+use Rattle.core_model.specs.declared.turn.Turn.TheVariants.{Idle, StoreValue, EnqTail, EnqLink, LinkSingle, EnqPass, EnqLast, EnqHead, DeqHead, DeqLink, DeqTail, DeqOver, DeqPass, DeqValue, MoveHead, BatchValue, BatchChain, BatchField, BatchHead, Install, HelpOldHead, HelpFirst, HelpLast, HelpCounts, HelpTail, HelpOldTail, HelpLink, LinkChain, HelpPass, RecordTail, HelpOver, MoveTailOver, HelpWalk, MoveHeadAnn, AnswerTail, AnswerLink, AnswerValue}
 use Rattle.core_model.specs.Functions.{put}
 use Rattle.core_model.specs.Lane.{Lane}
-use Rattle.core_model.specs.State.{Memory, Caller, State, read, write}
-use Rattle.core_model.specs.Step.{same_place, own_group, turned, ended}
-use Rattle.core_model.specs.Ghost.{Ghost, World}
+use Rattle.core_model.specs.Batches.{owner_of}
+use Rattle.core_model.specs.State.{Memory, Caller, Command, command, State, read, write}
+use Rattle.core_model.specs.Step.{same_place, own_group, turned, turned_with, ended}
+use Rattle.core_model.specs.Ghost.{Stage, waiting, Ghost, World}
 use Rattle.core_model.specs.Kept.{Stands, Kept}
-use Rattle.core_model.specs.Facts.{is_op, Holds, Each, turn_facts, facts}
-use Rattle.core_model.specs.Lawful.{shown_queue, Listed, ItemRows, Headed, Tailed, OwnGroups, Allowed, Lawful}
+use Rattle.core_model.specs.Facts.{is_op, Holds, Each, back_facts, turn_facts, facts}
+use Rattle.core_model.specs.Lawful.{shown_queue, Listed, ItemRows, Headed, Tailed, LinksIn, Announced, IsOwn, HelpsOwn, Told, IsTold, Pending, Waits, Unmade, OwnGroups, Allowed, Lawful}
 use Rattle.core_model.proofs.Puts.{put_here, put_else, put_all, put_same}
-use Rattle.core_model.proofs.Groups.{mine-push_own, length-operations-push, enqueues-push, proper-push}
-use Rattle.core_model.proofs.Stays.{world, Grows, all_stay}
+use Rattle.core_model.proofs.Groups.{mine-push_own, length-operations-push, enqueues-push, many-push, proper-push}
+use Rattle.core_model.proofs.Stays.{world, anns_same, Drafts, Grows, all_stay}
 
 -- the state after a step of caller c
 abbrev pub changed : State → ℕ → Memory → List Group → Caller → State
@@ -39,39 +45,59 @@ write_read m (Value r) = λ i. record m { value = put_same m.value r i }
 write_read m (Mark r) = refl
 write_read m (NodeHazard c) = refl
 write_read m (AnnHazard c) = refl
-write_read m (AnnWord a f) = refl
+write_read m (AnnWord a field.OldTail) = λ i. record m { old_tail = put_same m.old_tail a i }
+write_read m (AnnWord a field.OldHead) = λ i. record m { said = put_same m.said a i }
+write_read m (AnnWord a field.First) = λ i. record m { said = put_same m.said a i }
+write_read m (AnnWord a field.Last) = λ i. record m { said = put_same m.said a i }
+write_read m (AnnWord a field.Counts) = λ i. record m { said = put_same m.said a i }
+write_read m (AnnWord a field.BatchNo) = λ i. record m { said = put_same m.said a i }
+write_read m (AnnWord a field.Order0) = λ i. record m { said = put_same m.said a i }
+write_read m (AnnWord a field.Order1) = λ i. record m { said = put_same m.said a i }
+write_read m (AnnWord a field.Order2) = λ i. record m { said = put_same m.said a i }
+write_read m (AnnWord a field.Order3) = λ i. record m { said = put_same m.said a i }
 
 pub same_places : (p q : Place) → same_place p q ≡ true → p ≡ q
 same_places p q e = let both = and_parts (eqb p.row q.row) (eqb p.count q.count) e in λ i. record { row = eqb-true p.row q.row both.0 i; count = eqb-true p.count q.count both.1 i }
 
 -- a step that leaves all places, rows and values, and may add to the history
-pub grows_history : (s : State) (g : Ghost) (landed : ℕ → Bool) (added : List Group)
-    → Grows (λ _. ⊥) (world s g) record { memory = s.memory; history = s.history ++ added; ghost = record g { landed = landed } }
-grows_history s g landed added = record {
+pub grows_history : (z : Lane) (s : State) (g : Ghost) (landed : ℕ → Bool) (added : List Group)
+    → Grows z (λ _. ⊥) (world s g) record { memory = s.memory; history = s.history ++ added; ghost = record g { landed = landed } }
+grows_history z s g landed added = record {
   longer = le_refl _;
   heads = le_refl _;
   tails = le_refl _;
   path_same = λ _ _. refl;
   chained_same = λ _ _. refl;
   spot_own = λ _ u _. u;
-  on_same = λ i r on. (on.1, on.3);
+  on_same = λ i r on. (on.1, on.3, refl);
   link_own = λ _ _ _. refl;
   value_own = λ _ _ _. refl;
   value_path = λ _ _ _. refl;
+  anns = anns_same z (world s g) record { memory = s.memory; history = s.history ++ added; ghost = record g { landed = landed } } refl refl refl refl refl refl;
   more = (added, refl);
 }
 
+-- no announcement of caller c stands in HEAD
+abbrev pub Plain : Lane → Ghost → ℕ → Type 0
+Plain z g c = (a : ℕ) → g.ann ≡ Some a → owner_of z a ≢ c
+
+-- nor does any draft of it change
+pub drafts_same : (z : Lane) (a b : World) → b.ghost.stage ≡ a.ghost.stage → b.memory.said ≡ a.memory.said → b.memory.old_tail ≡ a.memory.old_tail → (d : ℕ) → Drafts z a b d
+drafts_same z a b stage said old d x _ e = (ap (λ (f : ℕ → Stage). f x) stage ∙ e, ap (λ (f : ℕ → Notice). f x) said, ap (λ (f : ℕ → Option Place). f x) old)
+
 -- what a caller has made stays the same as its command ends
-pub allowed_end : (z : Lane) (c : ℕ) (k : Caller) → Allowed z k.mine k.ops k.taken → Allowed z (k.mine ++ own_group c k ∷ []) [] k.taken
-allowed_end z c k A = let within = A.within in let rows = A.rows in let made = length-operations-push k.mine (own_group c k) in let taken = enqueues-push k.mine (own_group c k) in record {
+pub allowed_end : (z : Lane) (c : ℕ) (k : Caller) → Allowed z k.mine k.ops k.taken k.made → Allowed z (k.mine ++ own_group c k ∷ []) [] k.taken k.made
+allowed_end z c k A = let within = A.within in let rows = A.rows in let made = length-operations-push k.mine (own_group c k) in let taken = enqueues-push k.mine (own_group c k) in let anns = A.anns in let many = many-push k.mine (own_group c k) in record {
   within = omega arith;
   rows = omega arith;
   has_rows = A.has_rows;
+  anns = omega arith;
+  has_anns = A.has_anns;
 }
 
 -- what is kept of the last ended command, while the next one goes on
-pub kept_turned : (h : List Group) (c : ℕ) (k : Caller) (t : Turn) → Kept h c k → Kept h c (turned k t)
-kept_turned h c k t x = record { none = x.none; done = λ is. let y = x.done is in record { earlier = y.earlier; ops = y.ops; last = y.last; stands = y.stands; timely = y.timely } }
+pub kept_turned : (h : List Group) (c : ℕ) (k : Caller) (t : Turn) (vs : List ℕ) → Kept h c k → Kept h c (turned_with k t vs)
+kept_turned h c k t vs x = record { none = x.none; done = λ is. let y = x.done is in record { earlier = y.earlier; ops = y.ops; last = y.last; stands = y.stands; timely = y.timely } }
 
 module _ (z : Lane) (s : State) (L : Lawful z s) (c : ℕ) where
   abbrev here : World
@@ -87,10 +113,97 @@ module _ (z : Lane) (s : State) (L : Lawful z s) (c : ℕ) where
   pub known : (t : Turn) → (s.callers c).turn ≡ t → Each z (world s L.ghost) c (turn_facts z c (s.callers c) t)
   known t is = subst (λ (u : Turn). Each z here c (turn_facts z c me u)) is (L.kept_facts c).1.1.1
 
+  -- who helps its own announcement, or none of its announcements stands
+  back_plain : (m : Command) (a : ℕ) (b : Back) → Each z (world s L.ghost) c (back_facts z c m a b) → Plain z L.ghost c ⊎ IsOwn b
+  back_plain k a back.Own f = inr tt
+  back_plain k a (back.Enqueue x) f = inl f.0.1
+  back_plain k a back.Dequeue f = inl f.0.1
+  back_plain k a (back.Batch d) f = inl f.0.1
+
+  pub plain_or_own : (k : Caller) (t : Turn) → Each z (world s L.ghost) c (turn_facts z c k t) → Plain z L.ghost c ⊎ HelpsOwn t
+  plain_or_own k Idle f = inl f.0.1
+  plain_or_own k (StoreValue x) f = inl f.0.1
+  plain_or_own k (EnqTail x) f = inl f.0.1
+  plain_or_own k (EnqLink x p) f = inl f.0.1
+  plain_or_own k (LinkSingle x p) f = inl f.0.1
+  plain_or_own k (EnqPass x p n) f = inl f.0.1
+  plain_or_own k (EnqLast p n) f = inl f.0.1
+  plain_or_own k (EnqHead x) f = inl f.0.1
+  plain_or_own k DeqHead f = inl f.0.1
+  plain_or_own k (DeqLink p) f = inl f.0.1
+  plain_or_own k (DeqTail p n) f = inl f.0.1
+  plain_or_own k (DeqOver p n) f = inl f.0.1
+  plain_or_own k (DeqPass p n) f = inl f.0.1
+  plain_or_own k (DeqValue p n) f = inl f.0.1
+  plain_or_own k (MoveHead p n v) f = inl f.0.1
+  plain_or_own k (BatchValue d i v) f = inl f.0.1
+  plain_or_own k (BatchChain d i) f = inl f.0.1
+  plain_or_own k (BatchField d x) f = inl f.0.1
+  plain_or_own k (BatchHead d) f = inl f.0.1
+  plain_or_own k (Install d) f = inl f.1.0.1
+  plain_or_own k (HelpOldHead h) f = back_plain (command k) h.ann h.back f.1
+  plain_or_own k (HelpFirst h) f = back_plain (command k) h.ann h.back f.1
+  plain_or_own k (HelpLast h) f = back_plain (command k) h.ann h.back f.1
+  plain_or_own k (HelpCounts h) f = back_plain (command k) h.ann h.back f.1
+  plain_or_own k (HelpTail h) f = back_plain (command k) h.ann h.back f.1
+  plain_or_own k (HelpOldTail h p) f = back_plain (command k) h.ann h.back f.1.1.1.1
+  plain_or_own k (HelpLink h p) f = back_plain (command k) h.ann h.back f.1.1.1.1.1
+  plain_or_own k (LinkChain h p) f = back_plain (command k) h.ann h.back f.1.1.1.1.1
+  plain_or_own k (HelpPass h p n) f = back_plain (command k) h.ann h.back f.1.1.1
+  plain_or_own k (RecordTail h p) f = back_plain (command k) h.ann h.back f.1.1
+  plain_or_own k (HelpOver h q) f = back_plain (command k) h.ann h.back f.1.1
+  plain_or_own k (MoveTailOver h q) f = back_plain (command k) h.ann h.back f.1.1
+  plain_or_own k (HelpWalk h m r l) f = back_plain (command k) h.ann h.back f.1.1.1.1
+  plain_or_own k (MoveHeadAnn h m r) f = back_plain (command k) h.ann h.back f.1.1.1.1
+  plain_or_own k (AnswerTail h) f = inl f.0.1
+  plain_or_own k (AnswerLink m r l) f = inl f.0.1
+  plain_or_own k (AnswerValue m r l) f = inl f.0.1
+
+  -- an announcement goes on to stand, and to wait, as the caller c goes on
+  pub told_plain : (memory : Memory) (g : Ghost) (k : Caller) → Plain z g c → ((a : ℕ) → IsTold z memory g s.callers a) → (a : ℕ) → IsTold z memory g (put s.callers c k) a
+  told_plain memory g k plain old a at_head = subst (Told memory.value g.path (g.stage a) (memory.said a) (owner_of z a)) (sym (put_else s.callers c k (owner_of z a) (plain a at_head))) (old a at_head)
+
+  pub told_on : (memory : Memory) (g : Ghost) (t : Turn) → Plain z g c ⊎ HelpsOwn t → ((a : ℕ) → IsTold z memory g s.callers a) → (a : ℕ) → IsTold z memory g (put s.callers c (turned (s.callers c) t)) a
+  told_on memory g t (inl plain) old a at_head = told_plain memory g (turned me t) plain old a at_head
+  told_on memory g t (inr own) old a at_head = put_all s.callers c (turned me t) (λ d k. owner_of z a ≡ d → Told memory.value g.path (g.stage a) (memory.said a) (owner_of z a) k)
+      (λ at. let p = subst (λ (d : ℕ). Told memory.value g.path (g.stage a) (memory.said a) (owner_of z a) (s.callers d)) at (old a at_head) in record { tells = p.tells; helps = own; values = p.values })
+      (λ d _ at. subst (λ (d : ℕ). Told memory.value g.path (g.stage a) (memory.said a) (owner_of z a) (s.callers d)) at (old a at_head)) (owner_of z a) refl
+
+  -- of an announcement that waits the turn of its owner says nothing
+  pub waits_plain : (memory : Memory) (g : Ghost) (k : Caller) → Plain z g c → ((a : ℕ) → g.stage a ≡ waiting → g.ann ≡ Some a) → ((a : ℕ) → Waits z memory g s.callers a) → (a : ℕ) → Waits z memory g (put s.callers c k) a
+  waits_plain memory g k plain there old a waits = subst (Pending z memory.link memory.value g.spot g.chain (g.landed (owner_of z a)) (memory.said a) (owner_of z a)) (sym (put_else s.callers c k (owner_of z a) (plain a (there a waits)))) (old a waits)
+
+  pub waits_on : (memory : Memory) (g : Ghost) (t : Turn) → ((a : ℕ) → Waits z memory g s.callers a) → (a : ℕ) → Waits z memory g (put s.callers c (turned (s.callers c) t)) a
+  waits_on memory g t old a waits = put_all s.callers c (turned me t) (λ d k. owner_of z a ≡ d → Pending z memory.link memory.value g.spot g.chain (g.landed (owner_of z a)) (memory.said a) (owner_of z a) k)
+      (λ at. let p = subst (λ (d : ℕ). Pending z memory.link memory.value g.spot g.chain (g.landed (owner_of z a)) (memory.said a) (owner_of z a) (s.callers d)) at (old a waits) in record {
+        known = p.known;
+        not_yet = p.not_yet;
+        some = p.some;
+        starts = p.starts;
+        ends = p.ends;
+        homes = p.homes;
+        inside = p.inside;
+        items = p.items;
+        unlinked = p.unlinked;
+        taken = p.taken;
+        apart = p.apart;
+        joined = p.joined;
+        last = p.last;
+        values = p.values;
+      })
+      (λ d _ at. subst (λ (d : ℕ). Pending z memory.link memory.value g.spot g.chain (g.landed (owner_of z a)) (memory.said a) (owner_of z a) (s.callers d)) at (old a waits)) (owner_of z a) refl
+
+  pub waits_there : (a : ℕ) → L.ghost.stage a ≡ waiting → L.ghost.ann ≡ Some a
+  waits_there a waits = (L.announced.waits a waits).0
+
+  pub same_unmade : (k : Caller) → k.made ≡ (s.callers c).made → (d : ℕ) → Unmade z L.ghost.stage d (put s.callers c k d)
+  same_unmade k same = put_all s.callers c k (λ d y. Unmade z L.ghost.stage d y) (λ i from. L.unmade c i (subst (λ (n : ℕ). n ≤ i) same from)) (λ d _. L.unmade d)
+
   -- THE step: each part is shown in the new world, and all other callers go on knowing what they knew
   pub keeps : (memory : Memory) (added : List Group) (g : Ghost) (k : Caller) (Touch : ℕ → Type 0) → ((r : ℕ) → Touch r → z.home r ≡ c)
-      → Grows Touch (world s L.ghost) record { memory = memory; history = s.history ++ added; ghost = g }
-      → ((d : ℕ) → d ≢ c → (g.landed d ≡ L.ghost.landed d) × (mine (s.history ++ added) d ≡ mine s.history d))
+      → Grows z Touch (world s L.ghost) record { memory = memory; history = s.history ++ added; ghost = g }
+      → ((d : ℕ) → d ≢ c → (g.landed d ≡ L.ghost.landed d) × (mine (s.history ++ added) d ≡ mine s.history d)
+      × Drafts z (world s L.ghost) record { memory = memory; history = s.history ++ added; ghost = g } d)
       → IsProper z.callers (s.history ++ added)
       → last_queue (s.history ++ added) ≡ shown_queue memory.value g
       → Listed z.rows memory.link g.path g.chained g.spot g.head g.rest
@@ -98,11 +211,16 @@ module _ (z : Lane) (s : State) (L : Lawful z s) (c : ℕ) where
       → Headed z.first memory.head g.path g.head g.rest g.ann g.shown g.queued
       → Tailed z.first memory.tail g.path g.chained g.head g.rest g.tail
       → g.head + g.rest ≤ length (operations (s.history ++ added))
+      → ((r : ℕ) → LinksIn z.rows (memory.link r))
+      → Announced z memory g
+      → ((a : ℕ) → IsTold z memory g (put s.callers c k) a)
+      → ((a : ℕ) → Waits z memory g (put s.callers c k) a)
+      → ((d : ℕ) → Unmade z g.stage d (put s.callers c k d))
       → OwnGroups c (s.history ++ added) k (g.landed c)
-      → Allowed z k.mine k.ops k.taken
+      → Allowed z k.mine k.ops k.taken k.made
       → Each z record { memory = memory; history = s.history ++ added; ghost = g } c (facts z c k)
       → Lawful z (changed s c memory added k)
-  keeps memory added g k Touch homes grows others proper queue listed items headed tailed counts groups allowed mine' = let w : World = record { memory = memory; history = s.history ++ added; ghost = g } in record {
+  keeps memory added g k Touch homes grows others proper queue listed items headed tailed counts links announced told pending unmade groups allowed mine' = let w : World = record { memory = memory; history = s.history ++ added; ghost = g } in record {
     ghost = g;
     history = proper;
     queue = queue;
@@ -111,11 +229,16 @@ module _ (z : Lane) (s : State) (L : Lawful z s) (c : ℕ) where
     head = headed;
     tail = tailed;
     counts = counts;
+    links = links;
+    announced = announced;
+    told = told;
+    pending = pending;
+    unmade = unmade;
     own_groups = put_all s.callers c k (λ d y. OwnGroups d (s.history ++ added) y (g.landed d)) groups
         (λ d apart. let o = others d apart in o.1 ∙ (L.own_groups d ∙ ap (λ (b : Bool). (s.callers d).mine ++ cond b (own_group d (s.callers d) ∷ []) []) (sym o.0)));
-    allowed = put_all s.callers c k (λ d y. Allowed z y.mine y.ops y.taken) allowed (λ d _. L.allowed d);
+    allowed = put_all s.callers c k (λ d y. Allowed z y.mine y.ops y.taken y.made) allowed (λ d _. L.allowed d);
     kept_facts = put_all s.callers c k (λ d y. Each z w d (facts z d y)) mine'
-        (λ d apart. all_stay z Touch here w grows d (λ r at touch. apart (sym at ∙ homes r touch)) (others d apart).0 (facts z d (s.callers d)) (L.kept_facts d));
+        (λ d apart. all_stay z Touch here w grows d (λ r at touch. apart (sym at ∙ homes r touch)) (others d apart).0 (others d apart).2 (facts z d (s.callers d)) (L.kept_facts d));
   }
 
   -- the caller's turn alone changes
@@ -129,10 +252,15 @@ module _ (z : Lane) (s : State) (L : Lawful z s) (c : ℕ) where
     head = L.head;
     tail = L.tail;
     counts = L.counts;
+    links = L.links;
+    announced = L.announced;
+    told = told_on s.memory L.ghost t (plain_or_own (turned me t) t knows) L.told;
+    pending = waits_on s.memory L.ghost t L.pending;
+    unmade = same_unmade (turned me t) refl;
     own_groups = put_all s.callers c (turned me t) (λ d y. OwnGroups d s.history y (L.ghost.landed d)) (L.own_groups c) (λ d _. L.own_groups d);
-    allowed = put_all s.callers c (turned me t) (λ d y. Allowed z y.mine y.ops y.taken) (L.allowed c) (λ d _. L.allowed d);
+    allowed = put_all s.callers c (turned me t) (λ d y. Allowed z y.mine y.ops y.taken y.made) (L.allowed c) (λ d _. L.allowed d);
     kept_facts = put_all s.callers c (turned me t) (λ d y. Each z here d (facts z d y))
-        (let f = L.kept_facts c in (f.0, (f.1.0, (kept_turned s.history c me t f.1.1.0, knows)))) (λ d _. L.kept_facts d);
+        (let f = L.kept_facts c in (f.0, (f.1.0, (kept_turned s.history c me t me.values f.1.1.0, knows)))) (λ d _. L.kept_facts d);
   }
 
   -- the same as a step that finds x in a word and leaves it
@@ -141,11 +269,34 @@ module _ (z : Lane) (s : State) (L : Lawful z s) (c : ℕ) where
   quiet t l x is knows = subst (λ (y : Memory × List Group). Lawful z record { memory = y.0; history = y.1; callers = put s.callers c (turned me t) })
       (λ i. (sym (ap (write s.memory l) (sym is) ∙ write_read s.memory l) i, sym (append-nil s.history) i)) (turns t knows)
 
+  -- the same, where the values that the caller has read change too
+  pub turns_with : (t : Turn) (vs : List ℕ) → Plain z L.ghost c → Each z (world s L.ghost) c (turn_facts z c (turned_with (s.callers c) t vs) t)
+      → Lawful z record { memory = s.memory; history = s.history; callers = put s.callers c (turned_with (s.callers c) t vs) }
+  turns_with t vs plain knows = record {
+    ghost = L.ghost;
+    history = L.history;
+    queue = L.queue;
+    rows = L.rows;
+    item_rows = L.item_rows;
+    head = L.head;
+    tail = L.tail;
+    counts = L.counts;
+    links = L.links;
+    announced = L.announced;
+    told = told_plain s.memory L.ghost (turned_with me t vs) plain L.told;
+    pending = waits_plain s.memory L.ghost (turned_with me t vs) plain waits_there L.pending;
+    unmade = same_unmade (turned_with me t vs) refl;
+    own_groups = put_all s.callers c (turned_with me t vs) (λ d y. OwnGroups d s.history y (L.ghost.landed d)) (L.own_groups c) (λ d _. L.own_groups d);
+    allowed = put_all s.callers c (turned_with me t vs) (λ d y. Allowed z y.mine y.ops y.taken y.made) (L.allowed c) (λ d _. L.allowed d);
+    kept_facts = put_all s.callers c (turned_with me t vs) (λ d y. Each z here d (facts z d y))
+        (let f = L.kept_facts c in (f.0, (f.1.0, (kept_turned s.history c me t vs f.1.1.0, knows)))) (λ d _. L.kept_facts d);
+  }
+
   -- the running command, which has landed, ends
-  pub finishes : (xs : List Answer) → L.ghost.landed c ≡ true
+  pub finishes : (xs : List Answer) → L.ghost.landed c ≡ true → Plain z L.ghost c
       → (st : Stands s.history (own_group c (s.callers c)) xs) → (s.callers c).started_at ≤ length st.before
       → Lawful z record { memory = s.memory; history = s.history; callers = put s.callers c (ended (length s.history) c (s.callers c) xs) }
-  finishes xs on st from = record {
+  finishes xs on plain st from = record {
     ghost = G;
     history = L.history;
     queue = L.queue;
@@ -154,16 +305,36 @@ module _ (z : Lane) (s : State) (L : Lawful z s) (c : ℕ) where
     head = L.head;
     tail = L.tail;
     counts = L.counts;
+    links = L.links;
+    announced = L.announced;
+    told = told_plain s.memory G k plain L.told;
+    pending = waits_plain s.memory G k plain waits_there (λ a waits. let p = L.pending a waits in record {
+      known = p.known;
+      not_yet = put_else L.ghost.landed c false (owner_of z a) (plain a (waits_there a waits)) ∙ p.not_yet;
+      some = p.some;
+      starts = p.starts;
+      ends = p.ends;
+      homes = p.homes;
+      inside = p.inside;
+      items = p.items;
+      unlinked = p.unlinked;
+      taken = p.taken;
+      apart = p.apart;
+      joined = p.joined;
+      last = p.last;
+      values = p.values;
+    });
+    unmade = same_unmade k refl;
     own_groups = put_all s.callers c k (λ d y. OwnGroups d s.history y (put L.ghost.landed c false d))
         (L.own_groups c ∙ (ap (λ (b : Bool). me.mine ++ cond b (own ∷ []) []) on
         ∙ (sym (append-nil _) ∙ ap (λ (b : Bool). (me.mine ++ own ∷ []) ++ cond b (own_group c k ∷ []) []) (sym (put_here L.ghost.landed c false)))))
         (λ d apart. L.own_groups d ∙ ap (λ (b : Bool). (s.callers d).mine ++ cond b (own_group d (s.callers d) ∷ []) []) (sym (put_else L.ghost.landed c false d apart)));
-    allowed = put_all s.callers c k (λ d y. Allowed z y.mine y.ops y.taken) (allowed_end z c me (L.allowed c)) (λ d _. L.allowed d);
+    allowed = put_all s.callers c k (λ d y. Allowed z y.mine y.ops y.taken y.made) (allowed_end z c me (L.allowed c)) (λ d _. L.allowed d);
     kept_facts = put_all s.callers c k (λ d y. Each z W d (facts z d y)) (
       (λ i from below at. let o = (L.kept_facts c).0 i from below at in record { at_home = o.at_home; inside = o.inside; is_item = o.is_item; unlinked = o.unlinked; nil = o.nil }),
-      ((L.kept_facts c).1.0, (kept', (put_here L.ghost.landed c false, ((refl, λ _. ended_somewhere), tt)))),
+      ((L.kept_facts c).1.0, (kept', ((put_here L.ghost.landed c false, plain), ((refl, λ _. ended_somewhere), tt)))),
     )
-        (λ d apart. all_stay z (λ _. ⊥) here W grows d (λ _ _ x. x) (put_else L.ghost.landed c false d apart) (facts z d (s.callers d)) (L.kept_facts d));
+        (λ d apart. all_stay z (λ _. ⊥) here W grows d (λ _ _ x. x) (put_else L.ghost.landed c false d apart) (drafts_same z here W refl refl refl d) (facts z d (s.callers d)) (L.kept_facts d));
   } where
     k : Caller
     k = ended (length s.history) c me xs
@@ -174,8 +345,8 @@ module _ (z : Lane) (s : State) (L : Lawful z s) (c : ℕ) where
     W : World
     W = world s G
 
-    grows : Grows (λ _. ⊥) here W
-    grows = subst (λ (h : List Group). Grows (λ _. ⊥) here record { memory = s.memory; history = h; ghost = G }) (append-nil s.history) (grows_history s L.ghost (put L.ghost.landed c false) [])
+    grows : Grows z (λ _. ⊥) here W
+    grows = subst (λ (h : List Group). Grows z (λ _. ⊥) here record { memory = s.memory; history = h; ghost = G }) (append-nil s.history) (grows_history z s L.ghost (put L.ghost.landed c false) [])
 
     ended_somewhere : IsSome (Some (length s.history))
     ended_somewhere = refl
@@ -187,13 +358,21 @@ module _ (z : Lane) (s : State) (L : Lawful z s) (c : ℕ) where
     kept' : Kept s.history c k
     kept' = record { none = λ no. absurd (no refl); done = λ _. record { earlier = me.mine; ops = me.ops; last = refl; stands = st; timely = before_end } }
 
-  -- the command lands, and with it grows the history
-  module _ (op : Op) (off : L.ghost.landed c ≡ false) (runs : Holds z (world s L.ghost) c (is_op (s.callers c).ops op)) where
+  -- the command of c lands, whoever makes the step, and with it grows the history
+  module _ (off : L.ghost.landed c ≡ false) where
     own_mine : mine s.history c ≡ (s.callers c).mine
     own_mine = L.own_groups c ∙ (ap (λ (b : Bool). me.mine ++ cond b (own ∷ []) []) off ∙ append-nil me.mine)
 
+    pub joins_proper : c < z.callers → (s.callers c).ops ≢ [] → IsProper z.callers (s.history ++ own_group c (s.callers c) ∷ [])
+    joins_proper known some = proper-push z.callers s.history own known some (ap length (sym own_mine)) L.history
+
+    pub joins_mine : mine (s.history ++ own_group c (s.callers c) ∷ []) c ≡ (s.callers c).mine ++ own_group c (s.callers c) ∷ []
+    joins_mine = mine-push_own s.history own ∙ ap (λ (gs : List Group). gs ++ own ∷ []) own_mine
+
+  -- the same of a single operation
+  module _ (op : Op) (off : L.ghost.landed c ≡ false) (runs : Holds z (world s L.ghost) c (is_op (s.callers c).ops op)) where
     pub lands_proper : IsProper z.callers (s.history ++ own_group c (s.callers c) ∷ [])
-    lands_proper = proper-push z.callers s.history own runs.1 (λ none. some (sym runs.0 ∙ none)) (ap length (sym own_mine)) L.history where
+    lands_proper = joins_proper off runs.1 (λ none. some (sym runs.0 ∙ none)) where
       some : op ∷ [] ≢ []
       some e = cc e
 
@@ -201,7 +380,7 @@ module _ (z : Lane) (s : State) (L : Lawful z s) (c : ℕ) where
     lands_operations = length-operations-push s.history own ∙ (ap (λ (ops : List Op). length (operations s.history) + length ops) runs.0 ∙ (let one : length (operations s.history) + 1 ≡ suc (length (operations s.history)) = omega arith in one))
 
     pub lands_mine : mine (s.history ++ own_group c (s.callers c) ∷ []) c ≡ (s.callers c).mine ++ own_group c (s.callers c) ∷ []
-    lands_mine = mine-push_own s.history own ∙ ap (λ (gs : List Group). gs ++ own ∷ []) own_mine
+    lands_mine = joins_mine off
 
     -- where the command ends with that step
     module _ (xs : List Answer) (right : xs ≡ answers_from (last_queue s.history) (op ∷ [])) where

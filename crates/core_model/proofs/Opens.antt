@@ -9,13 +9,13 @@ use Rattle.word_rows.specs.Sizes.{items_of, own_rows_of}
 use Rattle.core_model.specs.declared.turn.CallEnd.TheVariants.{Done}
 use Rattle.core_model.specs.Lane.{item, lane_of}
 use Rattle.core_model.specs.Start.{opening}
-use Rattle.core_model.specs.Ghost.{Ghost}
+use Rattle.core_model.specs.Ghost.{unused, Ghost}
 use Rattle.core_model.specs.Facts.{Owns}
 use Rattle.core_model.specs.Lawful.{Lawful}
-use Rattle.core_model.proofs.Stays.{world}
+use Rattle.core_model.proofs.Stays.{world, unused_waits, unused_decides}
 
 abbrev first_ghost : Ghost
-first_ghost = record { path = λ _. 0; chained = λ _. false; spot = λ r. cond (eqb r 0) (Some 0) None; head = 0; rest = 0; tail = 0; ann = None; shown = 0; queued = 0; landed = λ _. false }
+first_ghost = record { path = λ _. 0; chained = λ _. false; spot = λ r. cond (eqb r 0) (Some 0) None; head = 0; rest = 0; tail = 0; ann = None; shown = 0; queued = 0; landed = λ _. false; stage = λ _. unused; chain = λ _. 0; cause = λ _. 0 }
 
 -- the i-th of w rows of caller c, of n callers
 row_inside : (n w c i : ℕ) → i < w → c < n → 1 + c * w + i < 1 + n * w
@@ -45,18 +45,37 @@ opens z = record {
     named = λ i. record { row = 0; count = (let e : z.first_count ≡ z.first_count + 0 = omega arith in e) i };
     after_head = le_refl _;
     within = le_refl _;
-    lags = λ below. absurd (omega arith);
+    lags = λ below _. absurd (omega arith);
   };
   counts = le_refl _;
+  links = λ _. tt;
+  announced = record {
+    inside = λ a e. absurd (nothing e);
+    installed = λ a e. absurd (nothing e);
+    old_head = λ a e. absurd (nothing e);
+    waits = λ a e. absurd (unused_waits refl e);
+    bound = λ a i e. absurd (unused_decides refl e);
+    standing = λ a i e _. absurd (nothing e);
+    unknown = λ a e. refl;
+    recorded = λ a i q e _. absurd (unused_decides refl e);
+    unrecorded = λ a i e _. absurd (unused_decides refl e);
+    lags = λ below _. absurd (omega arith);
+  };
+  told = λ a e. absurd (nothing e);
+  pending = λ a e. absurd (unused_waits refl e);
+  unmade = λ _ _ _ _. refl;
   own_groups = λ _. refl;
-  allowed = λ _. record { within = omega arith; rows = refl; has_rows = omega arith };
-  kept_facts = λ c. ((λ i _ below known. unused c i below known), (le_refl _, (record { none = λ _. refl; done = λ is. absurd (never is) }, (refl, ((refl, λ some. absurd (some refl)), tt)))));
+  allowed = λ _. record { within = omega arith; rows = refl; has_rows = omega arith; anns = refl; has_anns = omega arith };
+  kept_facts = λ c. ((λ i _ below known. never_taken c i below known), (le_refl _, (record { none = λ _. refl; done = λ is. absurd (never is) }, ((refl, λ a e _. nothing e), ((refl, λ some. absurd (some refl)), tt)))));
 } where
+  nothing : {a : ℕ} → None ≡ Some a → ⊥
+  nothing e = cc e
+
   never : None ≡ Some Done → ⊥
   never e = cc e
 
-  unused : (c i : ℕ) → i < items_of z → c < z.callers → Owns (lane_of z) (world (opening (lane_of z)) first_ghost) c (item (lane_of z) c i)
-  unused c i below known = let own : i < own_rows_of z = omega arith in record {
+  never_taken : (c i : ℕ) → i < items_of z → c < z.callers → Owns (lane_of z) (world (opening (lane_of z)) first_ghost) c (item (lane_of z) c i)
+  never_taken c i below known = let own : i < own_rows_of z = omega arith in record {
     at_home = row_home (own_rows_of z) c i own;
     inside = row_inside z.callers (own_rows_of z) c i own known;
     is_item = (c, i, known, below, refl);

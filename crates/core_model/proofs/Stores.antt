@@ -1,5 +1,5 @@
 -- An enqueue stores its value into a row that it took.
-use Rattle.std.proofs.Common.{◌≡◌, ℕ, suc, ◌+◌, ◌<◌, ◌≤◌, false, List, [], ◌++◌, length, sym, refl, ap, ◌∙◌, subst, arith, le_refl, Some, None}
+use Rattle.std.proofs.Common.{◌≡◌, inl, ℕ, suc, ◌+◌, ◌<◌, ◌≤◌, false, List, [], ◌++◌, length, sym, refl, ap, ◌∙◌, subst, arith, le_refl, Some, None}
 use Rattle.std.proofs.lemmas.List.{append-nil}
 use Rattle.bq_model.specs.declared.op.Op.TheVariants.{Enq}
 use Rattle.bq_model.specs.declared.group.Group.{Group}
@@ -17,8 +17,10 @@ use Rattle.core_model.specs.Kept.{Kept}
 use Rattle.core_model.specs.Facts.{owns, is_op, landed_is, Owns, Holds}
 use Rattle.core_model.specs.Lawful.{Lawful}
 use Rattle.core_model.proofs.Puts.{put_here, put_else, run_same}
-use Rattle.core_model.proofs.Stays.{world, Grows, owns_stays}
-use Rattle.core_model.proofs.Keeps.{known, keeps, changed, kept_turned}
+use Rattle.core_model.proofs.Stays.{world, anns_same, Grows, owns_stays}
+use Rattle.core_model.proofs.Keeps.{kept_turned, known, keeps, changed, drafts_same, told_on, waits_on, waits_there, same_unmade}
+use Rattle.core_model.proofs.Announces.{told_same, pending_same}
+use Rattle.core_model.specs.Batches.{owner_of}
 
 module _ (z : Lane) (s : State) (L : Lawful z s) (c : ℕ) (x : Item) (off : Holds z (world s L.ghost) c (landed_is false)) (op : Holds z (world s L.ghost) c (is_op (s.callers c).ops (Enq x.value)))
     (own : Holds z (world s L.ghost) c (owns (s.callers c).taken x.row)) where
@@ -43,7 +45,10 @@ module _ (z : Lane) (s : State) (L : Lawful z s) (c : ℕ) (x : Item) (off : Hol
     nothing : {i : ℕ} → None ≡ Some i → ⊥
     nothing e = cc e
 
-  grows : Grows (λ r. r ≡ x.row) (world s G) W
+  absent : {i : ℕ} → None ≡ Some i → ⊥
+  absent e = cc e
+
+  grows : Grows z (λ r. r ≡ x.row) (world s G) W
   grows = record {
     longer = le_refl _;
     heads = le_refl _;
@@ -51,10 +56,11 @@ module _ (z : Lane) (s : State) (L : Lawful z s) (c : ℕ) (x : Item) (off : Hol
     path_same = λ _ _. refl;
     chained_same = λ _ _. refl;
     spot_own = λ _ u _. u;
-    on_same = λ i r on. (on.1, on.3);
+    on_same = λ i r on. (on.1, on.3, put_else s.memory.value x.row x.value r (λ e. absent (sym own.0.unlinked ∙ (ap G.spot (sym e) ∙ on.1))));
     link_own = λ _ _ _. refl;
     value_own = λ r _ apart. put_else s.memory.value x.row x.value r apart;
     value_path = on_path;
+    anns = anns_same z (world s G) W refl refl refl refl refl refl;
     more = ([], refl);
   }
 
@@ -67,12 +73,18 @@ module _ (z : Lane) (s : State) (L : Lawful z s) (c : ℕ) (x : Item) (off : Hol
 
   pub value_stored : Lawful z (changed s c memory' [] k')
   value_stored = keeps z s L c memory' [] G k' (λ r. r ≡ x.row) (λ r e. ap z.home e ∙ own.0.at_home) grows
-      (λ d _. (refl, ap (λ (h : List Group). mine h d) (append-nil s.history)))
+      (λ d _. (refl, ap (λ (h : List Group). mine h d) (append-nil s.history), drafts_same z (world s G) W refl refl refl d))
       (still (IsProper z.callers) L.history)
       (still (λ h. last_queue h ≡ run (λ i. value' (G.path i)) (suc (G.head + G.shown)) G.queued)
       (L.queue ∙ run_same (λ i. s.memory.value (G.path i)) (λ i. value' (G.path i)) (suc (G.head + G.shown)) G.queued (λ j from below. let fits = L.head.fits in sym (on_path j (omega arith) (omega arith)))))
       L.rows L.item_rows L.head L.tail
       (still (λ h. G.head + G.rest ≤ length (operations h)) L.counts)
+      L.links L.announced
+      (told_on z s L c memory' G (EnqTail x) (inl off.1) (λ a at_head. told_same s.memory.value value' G.path G.path (G.stage a) (s.memory.said a) (owner_of z a) (s.callers (owner_of z a))
+      (λ i j d from below. let inside = (L.announced.bound a i d).within in let head = (L.announced.standing a i at_head d).from in on_path j (omega arith) (omega arith)) (L.told a at_head)))
+      (waits_on z s L c memory' G (EnqTail x) (λ a waits. let p = L.pending a waits in pending_same z s.memory.link s.memory.link s.memory.value value' G.spot G.spot G.chain (G.landed (owner_of z a)) (G.landed (owner_of z a)) (s.memory.said a) (owner_of z a) (s.callers (owner_of z a))
+      (λ _ _. refl) (λ i below. put_else s.memory.value x.row x.value (G.chain i) (λ e. off.1 a (waits_there z s L c a waits) (sym (p.homes i below) ∙ (ap z.home e ∙ own.0.at_home)))) p.unlinked refl p))
+      (same_unmade z s L c k' refl)
       (ap (λ (h : List Group). mine h c) (append-nil s.history) ∙ L.own_groups c)
       (L.allowed c)
       (let f = L.kept_facts c in (
@@ -80,11 +92,11 @@ module _ (z : Lane) (s : State) (L : Lawful z s) (c : ℕ) (x : Item) (off : Hol
         (
           still (λ h. (s.callers c).started_at ≤ length h) f.1.0,
           (
-            still (λ h. Kept h c k') (kept_turned s.history c (s.callers c) (EnqTail x) f.1.1.0),
+            still (λ h. Kept h c k') (kept_turned s.history c (s.callers c) (EnqTail x) (s.callers c).values f.1.1.0),
             (off, (op, ((row, own.1), ((row, put_here s.memory.value x.row x.value), tt)))),
           ),
         ),
       ))
 
-pub keeps_store_value : (z : Lane) (s : State) (L : Lawful z s) (c : ℕ) (x : Item) → (s.callers c).turn ≡ StoreValue x → Lawful z (step_at s c (StoreValue x))
+pub keeps_store_value : (z : Lane) (s : State) (L : Lawful z s) (c : ℕ) (x : Item) → (s.callers c).turn ≡ StoreValue x → Lawful z (step_at z s c (StoreValue x))
 keeps_store_value z s L c x is = let f = known z s L c (StoreValue x) is in value_stored z s L c x f.0 f.1.0 f.1.1.0

@@ -1,32 +1,36 @@
 -- The machine computes: schedules by hand, each step counted.
-use Rattle.std.proofs.Common.{◌≡◌, ℕ, zero, suc, ◌+◌, ◌*◌, ◌-◌, ◌/◌, [], ◌∷◌, refl, Some}
+use Rattle.std.proofs.Common.{◌≡◌, ℕ, zero, suc, ◌+◌, ◌*◌, ◌-◌, ◌/◌, Bool, true, false, cond, List, [], ◌∷◌, ◌++◌, refl, Some}
 use Rattle.bq_model.specs.declared.op.Op.{Op}
 use Rattle.bq_model.specs.declared.op.Op.TheVariants.{Enq, Deq}
-use Rattle.bq_model.specs.declared.op.Answer.TheVariants.{Done, Got}
+use Rattle.bq_model.specs.declared.op.Answer.TheVariants.{Done, Got, Empty}
 use Rattle.bq_model.specs.declared.group.Group.{Group}
+use Rattle.excess_count.specs.Excess.{excess_of}
 use Rattle.word_rows.specs.declared.head_word.HeadWord.TheVariants.{Node}
-use Rattle.core_model.specs.declared.turn.Turn.TheVariants.{Idle, EnqLast, DeqPass}
+use Rattle.core_model.specs.declared.turn.Turn.{Turn}
+use Rattle.core_model.specs.declared.turn.Turn.TheVariants.{Idle, EnqLast, DeqPass, LinkChain, HelpOldHead}
 use Rattle.core_model.specs.declared.turn.CallEnd.TheVariants as outcome
 use Rattle.core_model.specs.Lane.{Lane}
-use Rattle.core_model.specs.State.{State, place}
-use Rattle.core_model.specs.Step.{next}
+use Rattle.core_model.specs.Notices.{place}
+use Rattle.core_model.specs.State.{State}
+use Rattle.core_model.specs.declared.turn.Back.TheVariants as back
+use Rattle.core_model.specs.Step.{next, help_of}
 use Rattle.core_model.specs.Start.{start, opening}
 
 -- two callers with two item rows each
 abbrev two : Lane
 two = record { callers = 2; first = 5; allowance = 10; rows = 5; items = 2; first_row = λ c. 1 + c * 2; home = λ r. (r - 1) / 2 }
 
--- n steps of caller c
-steps : ℕ → ℕ → State → State
-steps c zero s = s
-steps c (suc n) s = steps c n (next s c)
+-- n steps of caller c; a caller that is idle makes none
+steps : Lane → ℕ → ℕ → State → State
+steps z c zero s = s
+steps z c (suc n) s = steps z c n (next z s c)
 
 abbrev group : ℕ → ℕ → Op → Group
 group c batch op = record { caller = c; batch = batch; ops = op ∷ [] }
 
 -- caller 0 links its row and stops before it moves the tail
 abbrev lagging : State
-lagging = steps 0 4 (start two (opening two) 0 (Enq 7))
+lagging = steps two 0 4 (start two (opening two) 0 (Enq 7 ∷ []))
 
 -- the enqueue stands in the history before its command ends
 lags : ((lagging.callers 0).turn ≡ EnqLast (place 0 5) 1) × (lagging.history ≡ group 0 0 (Enq 7) ∷ []) × ((lagging.callers 0).mine ≡ [])
@@ -35,9 +39,9 @@ lags = (refl, refl, refl)
 
 -- a dequeue meets the lagging tail, moves it, and begins again: nine steps to its value
 abbrev dequeued : State
-dequeued = steps 1 9 (start two lagging 1 Deq)
+dequeued = steps two 1 9 (start two lagging 1 (Deq ∷ []))
 
-helped : ((steps 1 3 (start two lagging 1 Deq)).callers 1).turn ≡ DeqPass (place 0 5) 1
+helped : ((steps two 1 3 (start two lagging 1 (Deq ∷ []))).callers 1).turn ≡ DeqPass (place 0 5) 1
 unfolding steps next
 helped = refl
 
@@ -46,11 +50,96 @@ unfolding steps next
 gets = (refl, refl, refl, refl)
 
 -- the enqueue's last exchange fails, and it is done all the same
-done : (((steps 0 1 dequeued).callers 0).answers ≡ Done ∷ []) × (((steps 0 1 dequeued).callers 0).ended_at ≡ Some 2) × ((steps 0 1 dequeued).memory.tail ≡ place 1 6)
+done : (((steps two 0 1 dequeued).callers 0).answers ≡ Done ∷ []) × (((steps two 0 1 dequeued).callers 0).ended_at ≡ Some 2) × ((steps two 0 1 dequeued).memory.tail ≡ place 1 6)
 unfolding steps next
 done = (refl, refl, refl)
 
 -- the third enqueue of a caller with two rows ends with Full and makes no step
-full : let s : State = start two (steps 0 5 (start two (steps 0 5 (start two (opening two) 0 (Enq 1))) 0 (Enq 2))) 0 (Enq 3) in ((s.callers 0).turn ≡ Idle) × ((s.callers 0).outcome ≡ Some outcome.Full) × ((s.callers 0).taken ≡ 2)
+full : let s : State = start two (steps two 0 5 (start two (steps two 0 5 (start two (opening two) 0 (Enq 1 ∷ []))) 0 (Enq 2 ∷ []))) 0 (Enq 3 ∷ []) in ((s.callers 0).turn ≡ Idle) × ((s.callers 0).outcome ≡ Some outcome.Full) × ((s.callers 0).taken ≡ 2)
 unfolding steps next
 full = (refl, refl, refl)
+
+-- A caller makes steps, n at most, until its next one links a chain.
+links_chain : Turn → Bool
+links_chain (LinkChain h p) = true
+links_chain _ = false
+
+until_link : Lane → ℕ → ℕ → State → State
+until_link z c zero s = s
+until_link z c (suc n) s = cond (links_chain (s.callers c).turn) s (until_link z c n (next z s c))
+
+-- The batch Deq, Enq 5, Enq 6, Deq on the empty lane: it is announced, and its owner finishes it.
+abbrev four : List Op
+four = Deq ∷ Enq 5 ∷ Enq 6 ∷ Deq ∷ []
+
+abbrev batch_group : ℕ → ℕ → List Op → Group
+batch_group c batch ops = record { caller = c; batch = batch; ops = ops }
+
+alone : let s : State = steps two 1 40 (start two (opening two) 1 four) in ((s.callers 1).turn ≡ Idle) × ((s.callers 1).answers ≡ Empty ∷ Done ∷ Done ∷ Got 5 ∷ []) × (s.history ≡ batch_group 1 0 four ∷ []) × ((s.callers 1).mine ≡ batch_group 1 0 four ∷ []) × ((s.memory.head) ≡ Node (place 3 6)) × (s.memory.tail ≡ place 4 7)
+unfolding steps next excess_of
+alone = (refl, refl, refl, refl, refl, refl)
+
+-- The owner stops right after the install, and a dequeue of the other caller finishes its batch, and then gets 6.
+abbrev helping : State
+helping = steps two 0 40 (start two (steps two 1 15 (start two (opening two) 1 four)) 0 (Deq ∷ []))
+
+installed : ((steps two 1 15 (start two (opening two) 1 four)).callers 1).turn ≡ HelpOldHead (help_of 2 back.Own)
+unfolding steps next excess_of
+installed = refl
+
+finished : (helping.history ≡ batch_group 1 0 four ∷ batch_group 0 0 (Deq ∷ []) ∷ []) × ((helping.callers 0).answers ≡ Got 6 ∷ []) × ((helping.callers 1).mine ≡ []) × ((helping.callers 1).turn ≡ HelpOldHead (help_of 2 back.Own))
+unfolding steps next excess_of
+finished = (refl, refl, refl, refl)
+
+-- the owner's own steps then find the same answers
+reads : let s : State = steps two 1 40 helping in ((s.callers 1).turn ≡ Idle) × ((s.callers 1).answers ≡ Empty ∷ Done ∷ Done ∷ Got 5 ∷ []) × (s.history ≡ helping.history) × ((s.callers 1).mine ≡ batch_group 1 0 four ∷ [])
+unfolding steps next excess_of
+reads = (refl, refl, refl, refl)
+
+-- lanes with eight item rows for each caller
+abbrev wide : ℕ → Lane
+wide callers = record { callers = callers; first = 0; allowance = 100; rows = 1 + callers * 8; items = 8; first_row = λ c. 1 + c * 8; home = λ r. (r - 1) / 8 }
+
+-- caller 0 is about to link its chain
+abbrev ready : ℕ → State
+ready callers = until_link (wide callers) 0 60 (start (wide callers) (opening (wide callers)) 0 (Enq 5 ∷ Enq 6 ∷ Deq ∷ []))
+
+-- caller 1 finishes the batch of caller 0, which is still unfinished there
+takes_over : let s : State = steps (wide 2) 1 60 (start (wide 2) (ready 2) 1 (Deq ∷ [])) in (s.history ≡ batch_group 0 0 (Enq 5 ∷ Enq 6 ∷ Deq ∷ []) ∷ batch_group 1 0 (Deq ∷ []) ∷ [])
+    × ((s.callers 1).answers ≡ Got 6 ∷ []) × ((s.callers 0).turn ≡ (((ready 2).callers 0).turn)) × ((s.callers 0).mine ≡ [])
+unfolding steps until_link links_chain next excess_of
+takes_over = (refl, refl, refl, refl)
+
+-- the helper is about to link the chain too, and stops while the owner makes two batches more
+abbrev stopped : State
+stopped = until_link (wide 3) 1 60 (start (wide 3) (ready 3) 1 (Deq ∷ []))
+
+abbrev batches : State
+batches = steps (wide 3) 0 60 (start (wide 3) (steps (wide 3) 0 60 (start (wide 3) (steps (wide 3) 0 60 stopped) 0 (Enq 7 ∷ Enq 8 ∷ []))) 0 (Enq 1 ∷ Deq ∷ Deq ∷ []))
+
+abbrev late_history : List Group
+late_history = batch_group 0 0 (Enq 5 ∷ Enq 6 ∷ Deq ∷ []) ∷ batch_group 0 1 (Enq 7 ∷ Enq 8 ∷ []) ∷ batch_group 0 2 (Enq 1 ∷ Deq ∷ Deq ∷ []) ∷ []
+
+helper_waits : links_chain (stopped.callers 1).turn ≡ true
+unfolding steps until_link links_chain next excess_of
+helper_waits = refl
+
+three_batches : (batches.history ≡ late_history) × (batches.memory.head ≡ Node (place 3 3)) × (batches.memory.tail ≡ place 5 5)
+unfolding steps until_link links_chain next excess_of
+three_batches = (refl, refl, refl)
+
+-- its exchange comes late and changes nothing,
+late : ((next (wide 3) batches 1).history ≡ late_history) × ((next (wide 3) batches 1).memory.head ≡ Node (place 3 3)) × ((next (wide 3) batches 1).memory.tail ≡ place 5 5)
+unfolding steps until_link links_chain next excess_of
+late = (refl, refl, refl)
+
+-- and its own dequeue gets 8
+late_dequeue : ((steps (wide 3) 1 60 batches).history ≡ late_history ++ batch_group 1 0 (Deq ∷ []) ∷ []) × (((steps (wide 3) 1 60 batches).callers 1).answers ≡ Got 8 ∷ [])
+unfolding steps until_link links_chain next excess_of
+late_dequeue = (refl, refl)
+
+-- a third batch of a caller with two announcements ends with Full and makes no step, and so does one whose rows aren't there
+full_batches : let s : State = steps (wide 2) 0 60 (start (wide 2) (steps (wide 2) 0 60 (start (wide 2) (opening (wide 2)) 0 (Enq 1 ∷ Deq ∷ []))) 0 (Enq 2 ∷ Deq ∷ [])) in
+    (((start (wide 2) s 0 (Enq 3 ∷ Deq ∷ [])).callers 0).outcome ≡ Some outcome.Full) × (((start (wide 2) s 0 (Enq 3 ∷ Deq ∷ [])).callers 0).turn ≡ Idle) × (((start two (opening two) 0 (Enq 1 ∷ Enq 2 ∷ Enq 3 ∷ [])).callers 0).outcome ≡ Some outcome.Full)
+unfolding steps next excess_of
+full_batches = (refl, refl, refl)

@@ -1,9 +1,20 @@
--- The places of a lane's rows, and what else its words don't say.
-use Rattle.std.specs.Prelude.{◌≡◌, ℕ, suc, ◌+◌, ◌<◌, Bool, true, false, List, Option, Some, None}
+-- The places of a lane's rows, how far its announcements are, and what else its words don't say.
+use Rattle.std.specs.Prelude.{◌≡◌, ◌≢◌, ℕ, suc, ◌+◌, ◌<◌, Bool, true, false, List, Option, Some, None}
 use Rattle.bq_model.specs.declared.group.Group.{Group}
+use Rattle.word_rows.specs.declared.place.Place.{Place}
 use Rattle.word_rows.specs.declared.link_word.LinkWord.{LinkWord}
 use Rattle.word_rows.specs.declared.link_word.LinkWord.TheVariants.{Nil, Single, Chain}
+use Rattle.core_model.specs.Notices.{place}
 use Rattle.core_model.specs.State.{Memory}
+
+-- How far an announcement is.
+pub data Stage : Type 0 where
+  -- it was never installed
+  unused : Stage
+  -- it stands in HEAD, and its rows aren't linked
+  waiting : Stage
+  -- its rows were linked behind the row at this place
+  decided : ℕ → Stage
 
 -- What the words don't say of a lane. Each row that was ever linked has a place, from 0 on; the row at the place i has
 -- the count `first + i`.
@@ -23,6 +34,11 @@ pub record Ghost : Type 0 where
   pub queued : ℕ
   -- the running command of a caller stands in the history
   pub landed : ℕ → Bool
+  -- how far each announcement is, and the rows of the one that waits, in order
+  pub stage : ℕ → Stage
+  pub chain : ℕ → ℕ
+  -- the announcement whose rows were linked behind a place
+  pub cause : ℕ → ℕ
 
 -- how many places there are
 abbrev pub places : Ghost → ℕ
@@ -39,6 +55,10 @@ abbrev pub joint : Bool → ℕ → LinkWord
 joint true r = Chain r
 joint false r = Single r
 
+-- the word of the place i
+abbrev pub at : ℕ → (ℕ → ℕ) → ℕ → Place
+at first path i = place (path i) (first + i)
+
 abbrev pub Unlinked : World → ℕ → Type 0
 Unlinked w r = w.ghost.spot r ≡ None
 
@@ -50,3 +70,6 @@ LinkAt w i r = (suc i ≡ places w.ghost → w.memory.link r ≡ Nil)
 -- the row r is at the place i
 abbrev pub On : World → ℕ → ℕ → Type 0
 On w i r = (i < places w.ghost) × (w.ghost.spot r ≡ Some i) × (w.ghost.path i ≡ r) × LinkAt w i r
+
+abbrev pub Installed : World → ℕ → Type 0
+Installed w a = w.ghost.stage a ≢ unused

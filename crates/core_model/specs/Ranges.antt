@@ -1,32 +1,42 @@
 -- The ranges of what a step names and counts.
-use Rattle.std.specs.Prelude.{ℕ, ◌^◌, ◌<◌}
+use Rattle.std.specs.Prelude.{ℕ, ◌+◌, ◌^◌, ◌<◌}
 use Rattle.word_rows.specs.declared.content.Content.{Content}
 use Rattle.word_rows.specs.declared.content.Content.TheVariants.{OfHead, OfTail, OfLink}
 use Rattle.word_rows.specs.declared.head_word.HeadWord.TheVariants.{Node}
 use Rattle.word_rows.specs.declared.link_word.LinkWord.TheVariants.{Single, Chain}
 use Rattle.word_rows.specs.declared.location.Location.{Location}
-use Rattle.word_rows.specs.declared.location.Location.TheVariants.{Link, Value}
+use Rattle.word_rows.specs.declared.location.Location.TheVariants.{Head, Tail, Link, Value, AnnWord}
 use Rattle.core_model.specs.declared.turn.Turn.{Turn}
-use Rattle.core_model.specs.declared.turn.Turn.TheVariants.{EnqPass, EnqLast, DeqPass, MoveHead}
+use Rattle.core_model.specs.declared.turn.Turn.TheVariants.{EnqPass, EnqLast, DeqPass, MoveHead, BatchValue, BatchChain, HelpPass, MoveTailOver, MoveHeadAnn}
 
--- a word of a lane with so many rows
-abbrev pub IsWord : ℕ → Location → Type 0
-IsWord rows (Link r) = r < rows
-IsWord rows (Value r) = r < rows
-IsWord rows _ = Unit {0}
+-- a word of a lane with so many rows and announcements
+abbrev pub IsWord : ℕ → ℕ → Location → Type 0
+IsWord rows anns (Link r) = r < rows
+IsWord rows anns (Value r) = r < rows
+IsWord rows anns (AnnWord a f) = a < anns
+IsWord rows anns _ = Unit {0}
 
--- the count that the step raises by one
+-- the row that the step counts out
+abbrev pub RowsFit : Turn → Type 0
+RowsFit (BatchValue d i v) = d.notice.first + i < 2 ^ 31
+RowsFit (BatchChain d i) = d.notice.first + i < 2 ^ 31
+RowsFit _ = Unit {0}
+
+-- the count that the step stores
 abbrev pub CountsFit : Turn → Type 0
 CountsFit (EnqPass x p n) = p.count < 2 ^ 44
 CountsFit (EnqLast p n) = p.count < 2 ^ 44
 CountsFit (DeqPass p n) = p.count < 2 ^ 44
 CountsFit (MoveHead p n v) = p.count < 2 ^ 44
+CountsFit (HelpPass h p n) = p.count < 2 ^ 44
+CountsFit (MoveTailOver h q) = q.count + h.counts.enqs < 2 ^ 44
+CountsFit (MoveHeadAnn h m r) = h.old_head.count + m < 2 ^ 44
 CountsFit _ = Unit {0}
 
--- what is found names rows of a lane with so many, and has counts below the limit; an announcement names no row
-abbrev pub NamesRows : ℕ → Content → Type 0
-NamesRows rows (OfHead (Node p)) = (p.row < rows) × (p.count < 2 ^ 44)
-NamesRows rows (OfTail p) = (p.row < rows) × (p.count < 2 ^ 44)
-NamesRows rows (OfLink (Single r)) = r < rows
-NamesRows rows (OfLink (Chain r)) = r < rows
-NamesRows rows _ = Unit {0}
+-- what is found in HEAD, in TAIL or in a link names rows of a lane with so many, and has counts below the limit
+abbrev pub NamesRows : ℕ → Location → Content → Type 0
+NamesRows rows Head (OfHead (Node p)) = (p.row < rows) × (p.count < 2 ^ 44)
+NamesRows rows Tail (OfTail p) = (p.row < rows) × (p.count < 2 ^ 44)
+NamesRows rows (Link r) (OfLink (Single n)) = n < rows
+NamesRows rows (Link r) (OfLink (Chain n)) = n < rows
+NamesRows rows _ _ = Unit {0}

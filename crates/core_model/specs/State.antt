@@ -1,5 +1,5 @@
 -- The state of a lane: its words, the history, and what each caller keeps.
-use Rattle.std.specs.Prelude.{ℕ, List, Option}
+use Rattle.std.specs.Prelude.{ℕ, List, Option, None}
 use Rattle.bq_model.specs.declared.op.Op.{Op}
 use Rattle.bq_model.specs.declared.op.Answer.{Answer}
 use Rattle.bq_model.specs.declared.group.Group.{Group}
@@ -9,12 +9,16 @@ use Rattle.word_rows.specs.declared.head_word.HeadWord.TheVariants.{Ann}
 use Rattle.word_rows.specs.declared.link_word.LinkWord.{LinkWord}
 use Rattle.word_rows.specs.declared.link_word.LinkWord.TheVariants.{Nil}
 use Rattle.word_rows.specs.declared.location.Location.{Location}
-use Rattle.word_rows.specs.declared.location.Location.TheVariants.{Head, Tail, Link, Value}
+use Rattle.word_rows.specs.declared.location.AnnField.{AnnField}
+use Rattle.word_rows.specs.declared.location.AnnField.TheVariants.{OldTail}
+use Rattle.word_rows.specs.declared.location.Location.TheVariants.{Head, Tail, Link, Value, AnnWord}
 use Rattle.word_rows.specs.declared.content.Content.{Content}
-use Rattle.word_rows.specs.declared.content.Content.TheVariants.{OfHead, OfTail, OfLink, OfValue}
+use Rattle.word_rows.specs.declared.content.Content.TheVariants.{OfHead, OfTail, OfLink, OfValue, OfOldTail}
+use Rattle.core_model.specs.declared.turn.Notice.{Notice}
 use Rattle.core_model.specs.declared.turn.Turn.{Turn}
 use Rattle.core_model.specs.declared.turn.CallEnd.{CallEnd}
 use Rattle.core_model.specs.Functions.{put}
+use Rattle.core_model.specs.Notices.{place, field_in, with_field}
 
 -- the words that a step can touch
 pub record Memory : Type 0 where
@@ -22,6 +26,9 @@ pub record Memory : Type 0 where
   pub tail : Place
   pub link : ℕ → LinkWord
   pub value : ℕ → ℕ
+  -- of each announcement OldTail, none while it isn't known, and what it says else
+  pub old_tail : ℕ → Option Place
+  pub said : ℕ → Notice
 
 -- what a caller keeps
 pub record Caller : Type 0 where
@@ -31,8 +38,11 @@ pub record Caller : Type 0 where
   pub ops : List Op
   -- the groups of its ended commands that answered Done
   pub mine : List Group
-  -- how many rows it took
+  -- how many rows it took, and how many batches of two operations or more it started
   pub taken : ℕ
+  pub made : ℕ
+  -- the values that it has read for the answers of its batch
+  pub values : List ℕ
   -- how its last ended command ended, and that one's answers
   pub outcome : Option CallEnd
   pub answers : List Answer
@@ -40,23 +50,36 @@ pub record Caller : Type 0 where
   pub started_at : ℕ
   pub ended_at : Option ℕ
 
+-- what of it stays the same while its command runs
+pub record Command : Type 0 where
+  pub ops : List Op
+  pub mine : List Group
+  pub taken : ℕ
+  pub made : ℕ
+  pub started_at : ℕ
+
+abbrev pub command : Caller → Command
+command k = record { ops = k.ops; mine = k.mine; taken = k.taken; made = k.made; started_at = k.started_at }
+
 pub record State : Type 0 where
   pub memory : Memory
   pub history : List Group
   pub callers : ℕ → Caller
 
-abbrev pub place : ℕ → ℕ → Place
-place row count = record { row = row; count = count }
+-- What is found in a word. No step touches marks and hazards yet.
+abbrev pub read_field : Memory → ℕ → AnnField → Content
+read_field m a OldTail = OfOldTail (m.old_tail a)
+read_field m a f = field_in (m.said a) f
 
--- What is found in a word. No step touches marks, hazards and announcements yet.
 abbrev pub read : Memory → Location → Content
 read m Head = OfHead m.head
 read m Tail = OfTail m.tail
 read m (Link r) = OfLink (m.link r)
 read m (Value r) = OfValue (m.value r)
+read m (AnnWord a f) = read_field m a f
 read m _ = OfValue 0
 
--- the content as that of a head, a tail, a link or a value; any, where it is of another kind
+-- the content as that of a head, a tail, a link, a value or an OldTail; any, where it is of another kind
 abbrev pub head_in : Content → HeadWord
 head_in (OfHead x) = x
 head_in _ = Ann 0 0
@@ -73,10 +96,19 @@ abbrev pub value_in : Content → ℕ
 value_in (OfValue x) = x
 value_in _ = 0
 
+abbrev pub old_tail_in : Content → Option Place
+old_tail_in (OfOldTail x) = x
+old_tail_in _ = None
+
 -- the words after a store
+abbrev pub write_field : Memory → ℕ → AnnField → Content → Memory
+write_field m a OldTail x = record m { old_tail = put m.old_tail a (old_tail_in x) }
+write_field m a f x = record m { said = put m.said a (with_field (m.said a) f x) }
+
 abbrev pub write : Memory → Location → Content → Memory
 write m Head x = record m { head = head_in x }
 write m Tail x = record m { tail = tail_in x }
 write m (Link r) x = record m { link = put m.link r (link_in x) }
 write m (Value r) x = record m { value = put m.value r (value_in x) }
+write m (AnnWord a f) x = write_field m a f x
 write m _ x = m

@@ -1,7 +1,7 @@
 // What a step finds in its word.
 ghost use Rattle.std.specs.Prelude.{◌≡◌, ◌+◌, ◌<◌, ◌^◌};
-ghost use Rattle.core_model.specs.State.{head_in, tail_in, link_in, value_in};
-ghost use Rattle.core_model.specs.Step.{same_place, is_node, is_nil, behind};
+ghost use Rattle.core_model.specs.State.{head_in, tail_in, link_in, value_in, old_tail_in};
+ghost use Rattle.core_model.specs.Step.{same_place, is_node, is_ann, is_unknown, is_nil, behind, far_behind};
 
 use word_rows::{Content, HeadWord, LinkWord, Place};
 
@@ -45,6 +45,16 @@ pub fn value_in(found: Content) -> u64
     }
 }
 
+/// What was found in OldTail of an announcement.
+pub fn old_tail_in(found: Content) -> Option<Place>
+    ensures { result ≡ old_tail_in found }
+{
+    match found {
+        Content::OfOldTail(tail) => tail,
+        _ => None,
+    }
+}
+
 /// Whether two places are the same.
 pub fn is_same_place(a: Place, b: Place) -> bool
     ensures { result ≡ same_place a b }
@@ -59,6 +69,26 @@ pub fn is_node(head: HeadWord, place: Place) -> bool
     match head {
         HeadWord::Node(dummy) => is_same_place(dummy, place),
         HeadWord::Ann { .. } => false,
+    }
+}
+
+/// Whether HEAD names this announcement, with this count.
+pub fn is_ann(head: HeadWord, number: u32, at: u64) -> bool
+    ensures { result ≡ is_ann head number at }
+{
+    match head {
+        HeadWord::Node(_) => false,
+        HeadWord::Ann { ann, count } => ann == number && count == at,
+    }
+}
+
+/// Whether an OldTail isn't known.
+pub fn is_unknown(tail: Option<Place>) -> bool
+    ensures { result ≡ is_unknown tail }
+{
+    match tail {
+        None => true,
+        Some(_) => false,
     }
 }
 
@@ -80,5 +110,16 @@ pub fn behind(place: Place, row: u32) -> Place
     Place {
         row,
         count: place.count + 1,
+    }
+}
+
+/// The place of a row that lies so many rows behind another.
+pub fn far_behind(place: Place, row: u32, more: u32) -> Place
+    requires { place.count + more < 2 ^ 44 }
+    ensures { result ≡ far_behind place row more }
+{
+    Place {
+        row,
+        count: place.count + u64::from(more),
     }
 }

@@ -24,6 +24,22 @@ pub enum StepKind {
     MoveTail,
     /// Exchanges HEAD by one row.
     MoveHead,
+    /// Stores the LINK of a row inside an own chain.
+    StoreChain,
+    /// Stores a field of an own announcement.
+    StoreAnn,
+    /// Exchanges HEAD from a node to an own announcement.
+    Install,
+    /// Loads a field of an announcement.
+    LoadAnn,
+    /// Exchanges a LINK from Nil to Chain of an announcement's first row.
+    LinkChain,
+    /// Exchanges OldTail of an announcement to the tail word behind which its chain is linked.
+    RecordTail,
+    /// Exchanges TAIL from the old tail of an announcement to the last row of its chain.
+    MoveTailOver,
+    /// Exchanges HEAD from an announcement to the new dummy.
+    MoveHeadAnn,
 }
 
 impl Turn {
@@ -33,14 +49,27 @@ impl Turn {
     {
         Some(match self {
             Turn::Idle => return None,
-            Turn::StoreValue(_) => StepKind::StoreValue,
+            Turn::StoreValue(_) | Turn::BatchValue(..) => StepKind::StoreValue,
             Turn::EnqTail(_) | Turn::DeqTail(..) | Turn::DeqOver(..) => StepKind::LoadTail,
-            Turn::EnqLink(..) | Turn::DeqLink(_) => StepKind::LoadLink,
+            Turn::HelpTail(_) | Turn::HelpOver(..) => StepKind::LoadTail,
+            Turn::EnqLink(..) | Turn::DeqLink(_) | Turn::HelpLink(..) => StepKind::LoadLink,
+            Turn::HelpWalk(..) | Turn::AnswerLink(..) => StepKind::LoadLink,
             Turn::LinkSingle(..) => StepKind::LinkSingle,
             Turn::EnqPass(..) | Turn::EnqLast(..) | Turn::DeqPass(..) => StepKind::MoveTail,
-            Turn::EnqHead(_) | Turn::DeqHead => StepKind::LoadHead,
-            Turn::DeqValue(..) => StepKind::LoadValue,
+            Turn::HelpPass(..) => StepKind::MoveTail,
+            Turn::EnqHead(_) | Turn::DeqHead | Turn::BatchHead(_) => StepKind::LoadHead,
+            Turn::DeqValue(..) | Turn::AnswerValue(..) => StepKind::LoadValue,
             Turn::MoveHead(..) => StepKind::MoveHead,
+            Turn::BatchChain(..) => StepKind::StoreChain,
+            Turn::BatchField(..) => StepKind::StoreAnn,
+            Turn::Install(_) => StepKind::Install,
+            Turn::HelpOldHead(_) | Turn::HelpFirst(_) | Turn::HelpLast(_) => StepKind::LoadAnn,
+            Turn::HelpCounts(_) | Turn::HelpOldTail(..) => StepKind::LoadAnn,
+            Turn::AnswerTail(_) => StepKind::LoadAnn,
+            Turn::LinkChain(..) => StepKind::LinkChain,
+            Turn::RecordTail(..) => StepKind::RecordTail,
+            Turn::MoveTailOver(..) => StepKind::MoveTailOver,
+            Turn::MoveHeadAnn(..) => StepKind::MoveHeadAnn,
         })
     }
 }

@@ -57,8 +57,8 @@ impl Counts {
     }
 }
 
-/// The counts of these operations.
-pub(crate) fn count(ops: &[Op]) -> Counts
+/// The counts of these operations, in one pass.
+pub fn count(ops: &[Op]) -> Counts
     requires { length ops.now < 2 ^ 32 }
     ensures counts_of_the_batch { result ≡ counts_of ops.now }
     ensures excess_is_the_greatest { IsExcess ops.now result.excess }

@@ -12,6 +12,6 @@ mod place;
 #[cfg(test)]
 mod tests;
 
-pub use counts::{Counts, successes};
+pub use counts::{Counts, count, successes};
 pub use pairing::answer_all;
 pub use place::{Which, answer_at};

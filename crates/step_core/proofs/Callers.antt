@@ -1,5 +1,5 @@
--- The calls' list as a function of the caller, and the parts of a step put together.
-use Rattle.std.proofs.Common.{◌≡◌, ℕ, zero, suc, ◌+◌, ◌<◌, Bool, true, cond, List, [], ◌∷◌, ◌++◌, length, map, slice_index_or, slice_set, count_by, sym, refl, ap, ◌∙◌, arith, get_or-set_same, get_or-set_other, slice_get, Some}
+-- The calls' list as a function of the caller, and the parts of a step and of a start put together.
+use Rattle.std.proofs.Common.{◌≡◌, ℕ, zero, suc, ◌+◌, ◌<◌, Bool, true, false, cond, List, [], ◌∷◌, ◌++◌, length, map, slice_index_or, slice_set, sum_by, sym, refl, ap, ◌∙◌, arith, get_or-set_same, get_or-set_other, slice_get, Some}
 use Rattle.std.proofs.lemmas.List.{map-set, get_or-map, length-map}
 use Rattle.std.proofs.lemmas.List.Sums.{sum_by-set}
 use Rattle.std.specs.declared.vec.Vec.{Vec}
@@ -12,19 +12,16 @@ use Rattle.core_model.specs.Functions.{put}
 use Rattle.core_model.specs.State.{Caller, State, read, write}
 use Rattle.bq_model.specs.declared.op.Op.{Op}
 use Rattle.core_model.specs.Lane.{lane_of}
-use Rattle.core_model.specs.Start.{newcomer, has_row, started, refused, start}
+use Rattle.core_model.specs.Start.{newcomer, has_rows, started, refused, start}
 use Rattle.core_model.specs.Step.{target, stored, grown, after, step_at, next}
-use Rattle.core_model.proofs.Puts.{put_all, put_same}
+use Rattle.core_model.proofs.Puts.{put_all, put_same, put_here}
 use Rattle.step_core.specs.declared.call.Call.{Call}
 use Rattle.step_core.specs.declared.words.Words.{Words}
 use Rattle.step_core.specs.declared.lists.Lists.{Lists}
 use Rattle.step_core.specs.Calls.{call_of}
-use Rattle.step_core.specs.Waiting.{awaits}
+use Rattle.step_core.specs.Due.{due}
 use Rattle.step_core.specs.Words.{memory_of}
-use Rattle.step_core.specs.Lists.{callers_of, state_of}
-
-abbrev pub one : Bool → ℕ
-one b = cond b 1 0
+use Rattle.step_core.specs.Lists.{callers_of, state_of, all_due}
 
 pub caller_is : (ks : List Call) (c : ℕ) (k : Call) → c < length ks → k ≡ slice_index_or ks c k → callers_of ks c ≡ call_of k
 caller_is ks c k below is = get_or-map call_of ks c k newcomer below ∙ ap call_of (sym is)
@@ -38,23 +35,24 @@ callers_set ks c k below = λ i d. put_all (callers_of ks) c (call_of k) (λ d y
 pub callers_kept : (ks : List Call) (c : ℕ) (old new : Call) → c < length ks → old ≡ slice_index_or ks c old → call_of new ≡ call_of old → callers_of (slice_set ks c new) ≡ callers_of ks
 callers_kept ks c old new below is same = callers_set ks c new below ∙ (ap (put (callers_of ks) c) (same ∙ sym (caller_is ks c old below is)) ∙ put_same (callers_of ks) c)
 
--- one more or one less waits
-pub waiting_set : (ks : List Call) (c : ℕ) (old new : Call) → c < length ks → old ≡ slice_index_or ks c old
-    → count_by (λ k. awaits k.turn) (slice_set ks c new) + cond (awaits (callers_of ks c).turn) 1 0 ≡ count_by (λ k. awaits k.turn) ks + cond (awaits (callers_of (slice_set ks c new) c).turn) 1 0
-waiting_set ks c old new below is = ap (λ (k : Caller). count_by (λ k. awaits k.turn) (slice_set ks c new) + cond (awaits k.turn) 1 0) (caller_is ks c old below is ∙ ap call_of is)
-    ∙ (sum_by-set (λ (k : Call). cond (awaits k.turn) 1 0) ks c new old below
-    ∙ ap (λ (k : Caller). count_by (λ k. awaits k.turn) ks + cond (awaits k.turn) 1 0) (sym (here (callers_set ks c new below)))) where
-      here : callers_of (slice_set ks c new) ≡ put (callers_of ks) c (call_of new) → callers_of (slice_set ks c new) c ≡ call_of new
-      here e = ap (λ (f : ℕ → Caller). f c) e ∙ Rattle.core_model.proofs.Puts.put_here (callers_of ks) c (call_of new)
+-- what one caller has due changes, and no other's
+pub due_set : (ks : List Call) (c : ℕ) (k : Call) → c < length ks → all_due (slice_set ks c k) + due (callers_of ks c) ≡ all_due ks + due (callers_of (slice_set ks c k) c)
+due_set ks c k below = ap (λ (ys : List Caller). sum_by due ys + due (callers_of ks c)) (map-set call_of ks c k)
+    ∙ (sum_by-set due (map call_of ks) c (call_of k) newcomer (let same = length-map ks call_of in omega arith)
+    ∙ ap (λ (y : Caller). all_due ks + due y) (sym (ap (λ (f : ℕ → Caller). f c) (callers_set ks c k below) ∙ put_here (callers_of ks) c (call_of k))))
+
+pub due_kept : (ks : List Call) (c : ℕ) (old new : Call) → c < length ks → old ≡ slice_index_or ks c old → due (call_of new) ≡ due (call_of old) → all_due (slice_set ks c new) ≡ all_due ks
+due_kept ks c old new below is same = let e = due_set ks c new below in
+    let was = ap due (caller_is ks c old below is) in let now = ap due (ap (λ (f : ℕ → Caller). f c) (callers_set ks c new below) ∙ put_here (callers_of ks) c (call_of new)) in omega arith
 
 -- a load, a store, what the history gains and what the caller keeps are a step
 pub step_is : (a d e : Lists) (w : Words) (c n : ℕ) (t : Turn) (l : Location) (x : Content) → t ≡ (callers_of a.calls.items c).turn → l ≡ target t → x ≡ read (memory_of a.words) l
-    → memory_of w ≡ write (memory_of a.words) l (stored t x) → d.words ≡ w → d.calls ≡ a.calls → d.history.items ≡ a.history.items ++ grown (callers_of a.calls.items) c t x
+    → memory_of w ≡ write (memory_of a.words) l (stored t x) → d.words ≡ w → d.calls ≡ a.calls → d.history.items ≡ a.history.items ++ grown (lane_of a.shape) (callers_of a.calls.items) c t x
     → e.words ≡ d.words → e.history ≡ d.history → n ≡ length d.history.items
     → callers_of e.calls.items ≡ put (callers_of d.calls.items) c (after n c (callers_of d.calls.items c) (callers_of d.calls.items c).turn x)
-    → state_of e ≡ next (state_of a) c
+    → state_of e ≡ next (lane_of a.shape) (state_of a) c
 unfolding next
-step_is a d e w c n t l x at names found writes words calls grew words' history' now goes = whole ∙ ap (step_at (state_of a) c) at where
+step_is a d e w c n t l x at names found writes words calls grew words' history' now goes = whole ∙ ap (step_at (lane_of a.shape) (state_of a) c) at where
   held : x ≡ read (memory_of a.words) (target t)
   held = found ∙ ap (read (memory_of a.words)) names
 
@@ -64,22 +62,17 @@ step_is a d e w c n t l x at names found writes words calls grew words' history'
   callers : callers_of d.calls.items ≡ callers_of a.calls.items
   callers = ap (λ (v : Vec Call Global). callers_of v.items) calls
 
-  history : e.history.items ≡ a.history.items ++ grown (callers_of a.calls.items) c t (read (memory_of a.words) (target t))
-  history = ap (λ (v : Vec Group Global). v.items) history' ∙ (grew ∙ (λ i. a.history.items ++ grown (callers_of a.calls.items) c t (held i)))
+  history : e.history.items ≡ a.history.items ++ grown (lane_of a.shape) (callers_of a.calls.items) c t (read (memory_of a.words) (target t))
+  history = ap (λ (v : Vec Group Global). v.items) history' ∙ (grew ∙ (λ i. a.history.items ++ grown (lane_of a.shape) (callers_of a.calls.items) c t (held i)))
 
-  count : n ≡ length (a.history.items ++ grown (callers_of a.calls.items) c t (read (memory_of a.words) (target t)))
-  count = now ∙ ap length (grew ∙ (λ i. a.history.items ++ grown (callers_of a.calls.items) c t (held i)))
+  count : n ≡ length (a.history.items ++ grown (lane_of a.shape) (callers_of a.calls.items) c t (read (memory_of a.words) (target t)))
+  count = now ∙ ap length (grew ∙ (λ i. a.history.items ++ grown (lane_of a.shape) (callers_of a.calls.items) c t (held i)))
 
-  goes' : callers_of e.calls.items ≡ put (callers_of a.calls.items) c (after (length (a.history.items ++ grown (callers_of a.calls.items) c t (read (memory_of a.words) (target t)))) c (callers_of a.calls.items c) t (read (memory_of a.words) (target t)))
+  goes' : callers_of e.calls.items ≡ put (callers_of a.calls.items) c (after (length (a.history.items ++ grown (lane_of a.shape) (callers_of a.calls.items) c t (read (memory_of a.words) (target t)))) c (callers_of a.calls.items c) t (read (memory_of a.words) (target t)))
   goes' = goes ∙ (λ i. put (callers i) c (after (count i) c (callers i c) ((ap (λ (f : ℕ → Caller). (f c).turn) callers ∙ sym at) i) (held i)))
 
-  whole : state_of e ≡ step_at (state_of a) c t
+  whole : state_of e ≡ step_at (lane_of a.shape) (state_of a) c t
   whole = λ i. record { memory = memory i; history = history i; callers = goes' i }
-
--- nobody begins or ends to wait
-pub waiting_kept : (ks : List Call) (c : ℕ) (old new : Call) → c < length ks → old ≡ slice_index_or ks c old → new.turn ≡ old.turn → count_by (λ k. awaits k.turn) (slice_set ks c new) ≡ count_by (λ k. awaits k.turn) ks
-waiting_kept ks c old new below is same = let e = sum_by-set (λ (k : Call). cond (awaits k.turn) 1 0) ks c new old below in
-    let was = ap (λ (k : Call). one (awaits k.turn)) (sym is) in let now = ap (λ (t : Turn). one (awaits t)) same in omega arith
 
 pub get_set : (ks : List Call) (c : ℕ) (k : Call) → c < length ks → slice_get (slice_set ks c k) c ≡ Some k
 get_set [] c k below = absurd (omega arith)
@@ -87,16 +80,27 @@ get_set (x ∷ ks) zero k below = refl
 get_set (x ∷ ks) (suc c) k below = get_set ks c k (omega arith)
 
 -- a command that begins on lists which show the same lane
-pub begun_is : (a r e : Lists) (c n : ℕ) (op : Op) → state_of r ≡ state_of a → r.shape ≡ a.shape → n ≡ length r.history.items → has_row (lane_of a.shape) (callers_of a.calls.items c).taken op ≡ true
+pub begun_is : (a r e : Lists) (c n : ℕ) (ops : List Op) → state_of r ≡ state_of a → r.shape ≡ a.shape → n ≡ length r.history.items → has_rows (lane_of a.shape) (callers_of a.calls.items c) ops ≡ true
     → (state_of e).memory ≡ (state_of r).memory → (state_of e).history ≡ (state_of r).history
-    → callers_of e.calls.items ≡ put (callers_of r.calls.items) c (started (lane_of r.shape) n c (callers_of r.calls.items c) op) → state_of e ≡ start (lane_of a.shape) (state_of a) c op
-begun_is a r e c n op same shape now row memory history callers = λ i. record {
+    → callers_of e.calls.items ≡ put (callers_of r.calls.items) c (started (lane_of r.shape) n c (callers_of r.calls.items c) ops) → state_of e ≡ start (lane_of a.shape) (state_of a) c ops
+begun_is a r e c n ops same shape now rows memory history callers = λ i. record {
   memory = (memory ∙ ap (λ (s : State). s.memory) same) i;
   history = (history ∙ ap (λ (s : State). s.history) same) i;
-  callers = (callers ∙ (begun ∙ ap (λ (b : Bool). put (callers_of a.calls.items) c (cond b (started (lane_of a.shape) (length a.history.items) c (callers_of a.calls.items c) op) (refused (lane_of a.shape) (length a.history.items) c (callers_of a.calls.items c)))) (sym row))) i;
+  callers = (callers ∙ (begun ∙ ap (λ (b : Bool). put (callers_of a.calls.items) c (cond b (started (lane_of a.shape) (length a.history.items) c (callers_of a.calls.items c) ops) (refused (lane_of a.shape) (length a.history.items) c (callers_of a.calls.items c)))) (sym rows))) i;
 } where
   count : n ≡ length a.history.items
   count = now ∙ ap (λ (s : State). length s.history) same
 
-  begun : put (callers_of r.calls.items) c (started (lane_of r.shape) n c (callers_of r.calls.items c) op) ≡ put (callers_of a.calls.items) c (started (lane_of a.shape) (length a.history.items) c (callers_of a.calls.items c) op)
-  begun = λ i. put (same i).callers c (started (lane_of (shape i)) (count i) c ((same i).callers c) op)
+  begun : put (callers_of r.calls.items) c (started (lane_of r.shape) n c (callers_of r.calls.items c) ops) ≡ put (callers_of a.calls.items) c (started (lane_of a.shape) (length a.history.items) c (callers_of a.calls.items c) ops)
+  begun = λ i. put (same i).callers c (started (lane_of (shape i)) (count i) c ((same i).callers c) ops)
+
+-- one that ends with Full at once
+pub refused_is : (a e : Lists) (c n : ℕ) (ops : List Op) → n ≡ length a.history.items → has_rows (lane_of a.shape) (callers_of a.calls.items c) ops ≡ false
+    → (state_of e).memory ≡ (state_of a).memory → (state_of e).history ≡ (state_of a).history
+    → callers_of e.calls.items ≡ put (callers_of a.calls.items) c (refused (lane_of a.shape) n c (callers_of a.calls.items c)) → state_of e ≡ start (lane_of a.shape) (state_of a) c ops
+refused_is a e c n ops now rows memory history callers = λ i. record {
+  memory = memory i;
+  history = history i;
+  callers = (callers ∙ ((λ j. put (callers_of a.calls.items) c (refused (lane_of a.shape) (now j) c (callers_of a.calls.items c)))
+      ∙ ap (λ (b : Bool). put (callers_of a.calls.items) c (cond b (started (lane_of a.shape) (length a.history.items) c (callers_of a.calls.items c) ops) (refused (lane_of a.shape) (length a.history.items) c (callers_of a.calls.items c)))) (sym rows))) i;
+}

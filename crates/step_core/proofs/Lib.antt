@@ -1,7 +1,10 @@
+pub mod Totals
 pub mod Callers
-pub mod Waits
+pub mod Fields
 pub mod Openings
+pub mod Landings
 pub mod Sound
-pub mod Singles
+pub mod Begins
+pub mod Pairs
 pub mod Schedules
 pub mod Runs

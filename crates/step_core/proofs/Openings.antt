@@ -1,12 +1,11 @@
 -- Lists of callers that made no command yet.
-use Rattle.std.proofs.Common.{◌≡◌, ℕ, zero, suc, ◌+◌, ◌<◌, Bool, false, cond, List, [], ◌∷◌, length, slice_index_or, count_by, fold, refl, ap, ◌∙◌, arith}
-use Rattle.core_model.specs.State.{Caller}
+use Rattle.std.proofs.Common.{◌≡◌, ℕ, zero, suc, ◌<◌, List, [], ◌∷◌, length, slice_index_or, map, refl, ap, ◌∙◌, arith}
 use Rattle.core_model.specs.Start.{newcomer}
 use Rattle.step_core.specs.declared.call.Call.{Call}
 use Rattle.step_core.specs.Calls.{call_of}
-use Rattle.step_core.specs.Waiting.{awaits}
-use Rattle.step_core.specs.Lists.{callers_of}
-use Rattle.step_core.proofs.Callers.{one}
+use Rattle.step_core.specs.Due.{due}
+use Rattle.step_core.specs.Lists.{callers_of, all_due}
+use Rattle.std.proofs.lemmas.List.Sums.{sum_by-cons}
 
 module _ where
   -- each call is a newcomer's
@@ -24,6 +23,7 @@ module _ where
   pub newcomers : (ks : List Call) → New ks → callers_of ks ≡ (λ _. newcomer)
   newcomers ks f = λ i c. new_at ks f c i
 
-  pub nobody_waits : (ks : List Call) → New ks → count_by (λ k. awaits k.turn) ks ≡ 0
-  nobody_waits [] f = refl
-  nobody_waits (x ∷ ks) f = let rest = nobody_waits ks (fewer x ks f) in let first : awaits x.turn ≡ false = ap (λ (k : Caller). awaits k.turn) (f 0 x (omega arith)) in ap (λ (b : Bool). fold (λ (n : ℕ) (k : Call). n + cond (awaits k.turn) 1 0) (0 + one b) ks) first ∙ rest
+  -- nothing is due
+  pub nothing_due : (ks : List Call) → New ks → all_due ks ≡ 0
+  nothing_due [] f = refl
+  nothing_due (x ∷ ks) f = sum_by-cons due (call_of x) (map call_of ks) ∙ (let rest = nothing_due ks (fewer x ks f) in let first = ap due (f 0 x (omega arith)) in omega arith)

@@ -1,6 +1,6 @@
 -- A schedule goes on event by event.
 use Rattle.std.proofs.Common.{◌≡◌, ℕ, zero, suc, ◌<◌, ◌≤◌, List, [], ◌∷◌, length, drop, slice_index_or, Option, Some, None, Result, Ok, Err, refl, sym, ap, ◌∙◌, arith}
-use Rattle.core_model.specs.Lane.{Lane}
+use Rattle.bq_model.specs.declared.shape.Shape.{Shape}
 use Rattle.core_model.specs.State.{State}
 use Rattle.step_core.specs.declared.schedule.Event.{Event}
 use Rattle.step_core.specs.declared.schedule.EventCause.{EventCause}
@@ -14,7 +14,7 @@ drop_at [] n e below is = absurd (omega arith)
 drop_at (x ∷ es) zero e below is = ap (λ (y : Event). y ∷ es) (sym is)
 drop_at (x ∷ es) (suc n) e below is = drop_at es n e (omega arith) is
 
-module _ (z : Lane) (s : State) (es : List Event) (n : ℕ) (e : Event) (below : n < length es) (is : e ≡ slice_index_or es n e) where
+module _ (z : Shape) (s : State) (es : List Event) (n : ℕ) (e : Event) (below : n < length es) (is : e ≡ slice_index_or es n e) where
   pub goes_on : cause_of z s e ≡ None → schedule z s n (drop n es) ≡ schedule z (after_event z s e) (suc n) (drop (suc n) es)
   goes_on none = ap (schedule z s n) (drop_at es n e below is) ∙ ap (λ (o : Option EventCause). refused_or o n (schedule z (after_event z s e) (suc n) (drop (suc n) es))) none
 

@@ -1,36 +1,38 @@
 -- A step finds all that it needs in sound lists, and leaves them sound.
-use Rattle.std.proofs.Common.{◌≡◌, ◌≢◌, ℕ, zero, suc, ◌+◌, ◌<◌, ◌≤◌, Bool, true, false, cond, List, [], ◌∷◌, length, slice_index_or, slice_get, count_by, sym, refl, ap, ◌∙◌, subst, arith, All, IfSome, IsTrue, Option, Some, Result, Ok, Err, OnOk, vec_len, vec_capacity}
-use mathlib.Core.Logic.{dite}
-use native.Mathlib.Decide.{ℕ_discrete}
-use Rattle.std.proofs.lemmas.List.Sums.{sum_by-set}
+use Rattle.std.proofs.Common.{◌≡◌, ◌≢◌, ℕ, zero, suc, ◌+◌, ◌-◌, ◌<◌, ◌≤◌, ◌↔◌, ltb, Bool, true, false, List, [], ◌∷◌, length, map, slice_index_or, slice_get, sym, refl, ap, ◌∙◌, subst, arith, All, IfSome, Option, Some, Result, Ok, Err, OnOk, vec_len, vec_capacity}
+use Rattle.std.proofs.lemmas.List.{length-map}
+use Rattle.std.proofs.lemmas.Bool.{ltb-true, lt-ltb}
 use Rattle.std.specs.declared.vec.Vec.{Vec}
 use Rattle.std.specs.declared.alloc.Global.{Global}
 use Rattle.bq_model.specs.declared.op.Op.{Op}
 use Rattle.bq_model.specs.declared.group.Group.{Group}
 use Rattle.bq_model.specs.declared.shape.Shape.{Shape}
 use Rattle.bq_model.specs.History.{operations}
-use Rattle.word_rows.specs.declared.content.Content.{Content}
-use Rattle.word_rows.specs.Sizes.{rows_of}
+use Rattle.bq_model.specs.Own.{mine}
+use Rattle.word_rows.specs.Sizes.{rows_of, anns_of}
+use Rattle.word_rows.proofs.SizeLemmas.{rows_within}
 use Rattle.core_model.specs.declared.turn.Turn.{Turn}
 use Rattle.core_model.specs.declared.turn.Turn.TheVariants.{Idle}
 use Rattle.core_model.specs.Functions.{put}
-use Rattle.core_model.specs.Lane.{lane_of}
-use Rattle.core_model.specs.State.{Caller, State}
-use Rattle.core_model.specs.Step.{target, grows, after, next}
-use Rattle.core_model.specs.Ranges.{IsWord, CountsFit}
+use Rattle.core_model.specs.Lane.{Lane, lane_of}
+use Rattle.core_model.specs.Start.{newcomer, PassesAllowance}
+use Rattle.core_model.specs.State.{Caller, State, read}
+use Rattle.core_model.specs.Step.{target, grows, lander, next}
+use Rattle.core_model.specs.Ranges.{IsWord, RowsFit, CountsFit}
 use Rattle.core_model.specs.Lawful.{Lawful}
-use Rattle.core_model.proofs.Puts.{put_here, put_else, put_all}
+use Rattle.core_model.proofs.Puts.{put_all}
 use Rattle.core_model.proofs.Steps.{keeps_next}
-use Rattle.core_model.proofs.InRange.{counts_fit, is_word, shape_fits}
+use Rattle.core_model.proofs.InRange.{counts_fit, rows_fit, is_word, shape_fits}
 use Rattle.step_core.specs.declared.call.Call.{Call}
 use Rattle.step_core.specs.declared.lists.Lists.{Lists}
 use Rattle.step_core.specs.declared.words.Words.{Words}
-use Rattle.step_core.specs.Words.{memory_of}
-use Rattle.step_core.specs.Calls.{call_of, IsReady, MayEnd}
-use Rattle.step_core.specs.Waiting.{awaits}
-use Rattle.step_core.specs.Lists.{callers_of, state_of, copy_at, IsSound}
-use Rattle.step_core.proofs.Callers.{one, caller_is}
-use Rattle.step_core.proofs.Waits.{Pays, pays}
+use Rattle.step_core.specs.Words.{memory_of, sizes_of, sizes_for}
+use Rattle.step_core.specs.Calls.{call_of, IsReady, MayGo}
+use Rattle.step_core.specs.Due.{due}
+use Rattle.step_core.specs.Lists.{callers_of, state_of, copy_at, all_due, MayLand, IsSound}
+use Rattle.step_core.proofs.Totals.{total, total_le, total_list}
+use Rattle.step_core.proofs.Callers.{caller_is}
+use Rattle.step_core.proofs.Landings.{due_falls, due_groups, goes_on_same, one_more, lander_known, lander_waits, another, others_mine, stays, values_fit}
 
 -- a call of the list
 pub call_at : (ks : List Call) (c : ℕ) → c < length ks → (k : Call) × (slice_get ks c ≡ Some k) × ((d : Call) → slice_index_or ks c d ≡ k)
@@ -38,104 +40,103 @@ call_at [] c below = absurd (omega arith)
 call_at (k ∷ ks) zero below = (k, refl, λ _. refl)
 call_at (k ∷ ks) (suc c) below = call_at ks c (omega arith)
 
--- one that waits is counted
-counted : (ks : List Call) (c : ℕ) → c < length ks → cond (awaits (callers_of ks c).turn) 1 0 ≤ count_by (λ (k : Call). awaits k.turn) ks
-counted ks c below = let f = call_at ks c below in let rested : Call = record f.0 { turn = Idle } in
-    let e = sum_by-set (λ (k : Call). cond (awaits k.turn) 1 0) ks c rested f.0 below in
-    let is = ap (λ (k : Call). one (awaits k.turn)) (f.2 f.0) in
-    let here = ap (λ (k : Caller). one (awaits k.turn)) (caller_is ks c f.0 below (sym (f.2 f.0))) in omega arith
+module _ (a : Lists) (S : IsSound a) where
+  -- the groups that are due, caller by caller
+  due_each : total a.shape.callers (λ c. due (callers_of a.calls.items c)) ≡ all_due a.calls.items
+  due_each = total_list due newcomer (map call_of a.calls.items) a.shape.callers (let n = S.calls in let m = length-map a.calls.items call_of in omega arith)
 
-module _ (a : Lists) (S : IsSound a) (c : ℕ) where
-  abbrev k : Caller
-  k = callers_of a.calls.items c
+  module _ (c : ℕ) where
+    pub finds_word : (t : Turn) → t ≡ (callers_of a.calls.items c).turn → IsWord (rows_of a.shape) (anns_of a.shape) (target t)
+    finds_word t at = subst (λ (u : Turn). IsWord (rows_of a.shape) (anns_of a.shape) (target u)) (sym at) (is_word (lane_of a.shape) (state_of a) S.lawful c)
 
-  pub finds_word : (t : Turn) → t ≡ (callers_of a.calls.items c).turn → IsWord (rows_of a.shape) (target t)
-  finds_word t at = subst (λ (u : Turn). IsWord (rows_of a.shape) (target u)) (sym at) (is_word (lane_of a.shape) (state_of a) S.lawful c)
+    pub fits_count : (t : Turn) → t ≡ (callers_of a.calls.items c).turn → CountsFit t
+    fits_count t at = subst CountsFit (sym at) (counts_fit (lane_of a.shape) (state_of a) S.lawful (shape_fits a.shape) c)
 
-  pub fits_count : (t : Turn) → t ≡ (callers_of a.calls.items c).turn → CountsFit t
-  fits_count t at = subst CountsFit (sym at) (counts_fit (lane_of a.shape) (state_of a) S.lawful (shape_fits a.shape) c)
+    pub fits_rows : (t : Turn) → t ≡ (callers_of a.calls.items c).turn → RowsFit t
+    fits_rows t at = subst RowsFit (sym at) (rows_fit (lane_of a.shape) (state_of a) S.lawful (let most = rows_within a.shape in omega arith) c)
 
-  module _ (t : Turn) (at : t ≡ (callers_of a.calls.items c).turn) (x : Content) where
-    bill : (n : ℕ) → Pays (grows t x) t k (after n c (callers_of a.calls.items c) t x)
-    bill n = pays n c k t x
+    module _ (runs : (callers_of a.calls.items c).turn ≢ Idle) (t : Turn) (at : t ≡ (callers_of a.calls.items c).turn) where
+      -- the lists as a later part of the step finds them
+      pub may_land : (b : Lists) → b.shape ≡ a.shape → b.calls ≡ a.calls → b.copies ≡ a.copies → b.history ≡ a.history
+          → grows t (read (memory_of a.words) (target t)) ≡ true → MayLand b (lander (lane_of a.shape) c t)
+      may_land b shape calls copies history g = let z = lane_of a.shape in let s = state_of a in let d = lander z c t in let below = lander_known z s S.lawful c runs t at g in let waits = lander_waits z s S.lawful c runs t at g in record {
+        inside = let n = S.calls in let e = ap (λ (v : Vec Call Global). vec_len v) calls in omega arith;
+        with_copy = let n = S.copies in let e = ap (λ (v : Vec (List Op) Global). vec_len v) copies in omega arith;
+        room = let more = one_more z s S.lawful c runs t at g in let sum = due_each in let room = S.reserved in let e = ap (λ (v : Vec Group Global). vec_len v) history in let m = ap (λ (v : Vec Group Global). vec_capacity v) history in omega arith;
+        copied = ap (λ (v : Vec (List Op) Global). copy_at v.items d) copies ∙ (S.copied d waits.0 waits.1 ∙ ap (λ (v : Vec Call Global). (callers_of v.items d).ops) (sym calls));
+      }
 
-    waits : grows t x ≡ true → awaits (callers_of a.calls.items c).turn ≡ true
-    waits g = by (awaits t) (grows t x) refl g (bill 0).0 where
-      by : (w b : Bool) → awaits t ≡ w → b ≡ true → cond b 1 0 + cond (awaits (after 0 c (callers_of a.calls.items c) t x).turn) 1 0 ≤ cond w 1 0 → awaits (callers_of a.calls.items c).turn ≡ true
-      by true b w _ le = ap awaits (sym at) ∙ w
-      by false true w _ le = absurd (omega arith)
-      by false false w b le = absurd (differ b) where
-        differ : false ≡ true → ⊥
-        differ e = cc e
-
-    pub has_room : c < length a.calls.items → grows t x ≡ true → vec_len a.history < vec_capacity a.history
-    has_room below g = let w = ap one (waits g) in let n = counted a.calls.items c below in let room = S.reserved in omega arith
-
-    pub has_copy : grows t x ≡ true → copy_at a.copies.items c ≡ (callers_of a.calls.items c).ops
-    has_copy g = S.copied c (waits g)
-
-  pub may_end : (ks : List Call) → ks ≡ a.calls.items → c < length ks → (callers_of a.calls.items c).turn ≢ Idle → IfSome (slice_get ks c) MayEnd
-  may_end ks same below runs = let f = call_at ks c below in subst (λ (o : Option Call). IfSome o MayEnd) (sym f.1)
+  pub may_go : (ks : List Call) (c : ℕ) → ks ≡ a.calls.items → c < length ks → (callers_of a.calls.items c).turn ≢ Idle → IfSome (slice_get ks c) MayGo
+  may_go ks c same below runs = let f = call_at ks c below in subst (λ (o : Option Call). IfSome o MayGo) (sym f.1)
       (let is = caller_is ks c f.0 below (sym (f.2 f.0)) in let was : callers_of a.calls.items c ≡ call_of f.0 = ap (λ (ys : List Call). callers_of ys c) (sym same) ∙ is in
+      let R : IsReady a.shape.batch f.0 = subst (IsReady a.shape.batch) (f.2 f.0) (subst (All (IsReady a.shape.batch)) (sym same) S.ready c f.0 below) in
       let within = (S.lawful.allowed c).within in let most = a.shape.some_allowance.1 in record {
-        ready = subst IsReady (f.2 f.0) (subst (All IsReady) (sym same) S.ready c f.0 below);
-        runs = λ idle. runs (ap (λ (k : Caller). k.turn) was ∙ idle);
-        fits = let e = ap (λ (k : Caller). length (operations k.mine) + length k.ops) was in omega arith;
+        may_end = record {
+          ready = subst (λ (n : ℕ). IsReady n f.0) (sym R.answers) R;
+          runs = λ idle. runs (ap (λ (k : Caller). k.turn) was ∙ idle);
+          fits = let e = ap (λ (k : Caller). length (operations k.mine) + length k.ops) was in omega arith;
+        };
+        some = let n = R.answers in let least = a.shape.some_batch.0 in omega arith;
+        rows = fits_rows c f.0.turn (sym (ap (λ (k : Caller). k.turn) was));
+        reads = λ m r l is. let e = ap (λ (k : Caller). length k.values) was in let o = ap (λ (k : Caller). length k.ops) was in
+            let less = values_fit (lane_of a.shape) (state_of a) S.lawful c m r l (ap (λ (k : Caller). k.turn) was ∙ is) in omega arith;
       })
 
-  module _ (e : Lists) (t : Turn) (x : Content) (n : ℕ) (at : t ≡ (callers_of a.calls.items c).turn) (step : state_of e ≡ next (state_of a) c) (shape : e.shape ≡ a.shape)
-      (links : vec_len e.words.links ≡ vec_len a.words.links) (values : vec_len e.words.values ≡ vec_len a.words.values) (calls : vec_len e.calls ≡ vec_len a.calls) (copies : vec_len e.copies ≡ vec_len a.copies)
-      (ready : All IsReady e.calls.items) (room : vec_len e.history ≡ vec_len a.history + cond (grows t x) 1 0) (capacity : vec_capacity e.history ≡ vec_capacity a.history)
-      (goes : callers_of e.calls.items ≡ put (callers_of a.calls.items) c (after n c (callers_of a.calls.items c) (callers_of a.calls.items c).turn x))
-      (waiting : count_by (λ k. awaits k.turn) e.calls.items + cond (awaits (callers_of a.calls.items c).turn) 1 0 ≡ count_by (λ k. awaits k.turn) a.calls.items + cond (awaits (callers_of e.calls.items c).turn) 1 0)
-      (others : (d : ℕ) → d ≢ c → copy_at e.copies.items d ≡ copy_at a.copies.items d) (still : ¬ (IsTrue (grows t x)) → copy_at e.copies.items c ≡ copy_at a.copies.items c) where
-    goes_on : callers_of e.calls.items c ≡ after n c (callers_of a.calls.items c) t x
-    goes_on = ap (λ (f : ℕ → Caller). f c) goes ∙ (put_here (callers_of a.calls.items) c _ ∙ ap (λ (u : Turn). after n c k u x) (sym at))
+  module _ (c : ℕ) (runs : (callers_of a.calls.items c).turn ≢ Idle) (e : Lists) (t : Turn) (at : t ≡ (callers_of a.calls.items c).turn)
+      (step : state_of e ≡ next (lane_of a.shape) (state_of a) c) (shape : e.shape ≡ a.shape)
+      (sizes : sizes_of e.words ≡ sizes_of a.words) (calls : vec_len e.calls ≡ vec_len a.calls) (copies : vec_len e.copies ≡ vec_len a.copies)
+      (ready : All (IsReady a.shape.batch) e.calls.items) (capacity : vec_capacity e.history ≡ vec_capacity a.history)
+      (others : (d : ℕ) → d ≢ lander (lane_of a.shape) c t → copy_at e.copies.items d ≡ copy_at a.copies.items d)
+      (still : grows t (read (memory_of a.words) (target t)) ≡ false → (d : ℕ) → copy_at e.copies.items d ≡ copy_at a.copies.items d) where
+    copied_next : (d : ℕ) → ((next (lane_of a.shape) (state_of a) c).callers d).turn ≢ Idle
+        → length (mine (next (lane_of a.shape) (state_of a) c).history d) ≡ length ((next (lane_of a.shape) (state_of a) c).callers d).mine
+        → copy_at e.copies.items d ≡ ((next (lane_of a.shape) (state_of a) c).callers d).ops
+    copied_next d runs' none = by (grows t (read (memory_of a.words) (target t))) refl where
+      z : Lane
+      z = lane_of a.shape
 
-    paid : Pays (grows t x) t k (after n c (callers_of a.calls.items c) t x)
-    paid = bill t at x n
-
-    copied' : (d : ℕ) → awaits (callers_of e.calls.items d).turn ≡ true → copy_at e.copies.items d ≡ (callers_of e.calls.items d).ops
-    copied' d w = dite (ℕ_discrete d c)
-        (λ same. let P : ℕ → Type 0 = λ i. awaits (callers_of e.calls.items i).turn ≡ true → copy_at e.copies.items i ≡ (callers_of e.calls.items i).ops in
-        subst P (sym same) (λ w. let p = paid.1 (ap (λ (k : Caller). awaits k.turn) (sym goes_on) ∙ w) in
-        still (λ g. differ (sym g ∙ p.0)) ∙ (S.copied c (ap awaits (sym at) ∙ p.1) ∙ sym (ap (λ (k : Caller). k.ops) goes_on ∙ p.2))) w)
-        (λ apart. let was : callers_of e.calls.items d ≡ callers_of a.calls.items d = ap (λ (f : ℕ → Caller). f d) goes ∙ put_else (callers_of a.calls.items) c _ d apart in
-        others d apart ∙ (S.copied d (ap (λ (k : Caller). awaits k.turn) (sym was) ∙ w) ∙ sym (ap (λ (k : Caller). k.ops) was))) where
-          differ : true ≡ false → ⊥
-          differ e = cc e
+      by : (b : Bool) → grows t (read (memory_of a.words) (target t)) ≡ b → copy_at e.copies.items d ≡ ((next (lane_of a.shape) (state_of a) c).callers d).ops
+      by true g = let on = goes_on_same (lane_of a.shape) (state_of a) S.lawful c runs d runs' in let apart = another (lane_of a.shape) (state_of a) S.lawful c runs t at g d runs' none in
+          others d apart ∙ (S.copied d on.0 (ap length (sym (others_mine (lane_of a.shape) (state_of a) S.lawful c runs t at g d apart)) ∙ (none ∙ ap length on.2)) ∙ sym on.1)
+      by false g = let on = goes_on_same (lane_of a.shape) (state_of a) S.lawful c runs d runs' in
+          still g d ∙ (S.copied d on.0 (ap (λ (h : List Group). length (mine h d)) (sym (stays (lane_of a.shape) (state_of a) S.lawful c runs t at g)) ∙ (none ∙ ap length on.2)) ∙ sym on.1)
 
     pub stays_sound : IsSound e
     stays_sound = let L = subst (Lawful (lane_of a.shape)) (sym step) (keeps_next (lane_of a.shape) (state_of a) S.lawful c) in record {
       lawful = subst (λ (z : Shape). Lawful (lane_of z) (state_of e)) (sym shape) L;
-      links = links ∙ (S.links ∙ ap rows_of (sym shape));
-      values = values ∙ (S.values ∙ ap rows_of (sym shape));
+      sizes = sizes ∙ (S.sizes ∙ ap (λ (z : Shape). sizes_for (rows_of z) (anns_of z)) (sym shape));
       calls = calls ∙ (S.calls ∙ ap (λ (z : Shape). z.callers) (sym shape));
       copies = copies ∙ (S.copies ∙ ap (λ (z : Shape). z.callers) (sym shape));
-      ready = ready;
-      reserved = let w = waiting in let r = S.reserved in let l = room in let cap = capacity in let p = paid.0 in
-          let a1 = ap (λ (k : Caller). one (awaits k.turn)) goes_on in let a2 = ap (λ (u : Turn). one (awaits u)) at in omega arith;
-      copied = copied';
+      ready = subst (λ (z : Shape). All (IsReady z.batch) e.calls.items) (sym shape) ready;
+      reserved = let falls = total_le a.shape.callers (λ d. due ((next (lane_of a.shape) (state_of a) c).callers d)) (λ d. due (callers_of a.calls.items d)) (λ d _. due_falls (lane_of a.shape) (state_of a) S.lawful c runs d) in
+          let was = due_each in let now = total_list due newcomer (map call_of e.calls.items) a.shape.callers (let n = S.calls in let m = length-map e.calls.items call_of in let l = calls in omega arith) in
+          let same = ap (λ (s : State). total a.shape.callers (λ d. due (s.callers d))) step in let room = S.reserved in let cap = capacity in omega arith;
+      copied = subst (λ (s : State). (d : ℕ) → (s.callers d).turn ≢ Idle → length (mine s.history d) ≡ length (s.callers d).mine → copy_at e.copies.items d ≡ (s.callers d).ops) (sym step) copied_next;
     }
 
 -- what a caller has made is within its allowance
-pub made_within : (a : Lists) (S : IsSound a) (c : ℕ) (k : Call) → c < length a.calls.items → k ≡ slice_index_or a.calls.items c k → k.made ≤ a.shape.allowance
-made_within a S c k below is = let within = (S.lawful.allowed c).within in let made = (subst IsReady (sym is) (S.ready c k below)).made in
+pub made_within : (a : Lists) (S : IsSound a) (c : ℕ) (k : Call) → c < length a.calls.items → k ≡ slice_index_or a.calls.items c k → k.operations ≤ a.shape.allowance
+made_within a S c k below is = let within = (S.lawful.allowed c).within in let made = (subst (IsReady a.shape.batch) (sym is) (S.ready c k below)).operations in
     let e = ap (λ (y : Caller). length (operations y.mine)) (caller_is a.calls.items c k below is) in omega arith
 
+pub spent_is : (a : Lists) (S : IsSound a) (c : ℕ) (k : Call) (allowance more : ℕ) → c < length a.calls.items → k ≡ slice_index_or a.calls.items c k → allowance ≡ a.shape.allowance
+    → (ltb (allowance - k.operations) more ≡ true) ↔ PassesAllowance (lane_of a.shape) (callers_of a.calls.items c) more
+spent_is a S c k allowance more below is same = let made = (subst (IsReady a.shape.batch) (sym is) (S.ready c k below)).operations in let within = made_within a S c k below is in
+    let e = ap (λ (y : Caller). length (operations y.mine)) (caller_is a.calls.items c k below is) in
+    ((λ t. let less = ltb-true _ _ t in omega arith), λ passes. lt-ltb _ _ (omega arith))
+
 -- lists that show the same lane
-pub again_sound : (a b : Lists) → IsSound a → state_of b ≡ state_of a → b.shape ≡ a.shape → vec_len b.words.links ≡ vec_len a.words.links → vec_len b.words.values ≡ vec_len a.words.values → vec_len b.calls ≡ vec_len a.calls
-    → b.copies ≡ a.copies → All IsReady b.calls.items → vec_len b.history ≡ vec_len a.history → vec_capacity a.history ≤ vec_capacity b.history
-    → count_by (λ k. awaits k.turn) b.calls.items ≡ count_by (λ k. awaits k.turn) a.calls.items → IsSound b
-again_sound a b S same shape links values calls copies ready len capacity waiting = record {
+pub again_sound : (a b : Lists) → IsSound a → state_of b ≡ state_of a → b.shape ≡ a.shape → sizes_of b.words ≡ sizes_of a.words → vec_len b.calls ≡ vec_len a.calls
+    → b.copies ≡ a.copies → All (IsReady a.shape.batch) b.calls.items → vec_capacity a.history ≤ vec_capacity b.history → all_due b.calls.items ≡ all_due a.calls.items → IsSound b
+again_sound a b S same shape sizes calls copies ready capacity waiting = record {
   lawful = subst (λ (z : Shape). Lawful (lane_of z) (state_of b)) (sym shape) (subst (Lawful (lane_of a.shape)) (sym same) S.lawful);
-  links = links ∙ (S.links ∙ ap rows_of (sym shape));
-  values = values ∙ (S.values ∙ ap rows_of (sym shape));
+  sizes = sizes ∙ (S.sizes ∙ ap (λ (z : Shape). sizes_for (rows_of z) (anns_of z)) (sym shape));
   calls = calls ∙ (S.calls ∙ ap (λ (z : Shape). z.callers) (sym shape));
   copies = ap (λ (v : Vec (List Op) Global). vec_len v) copies ∙ (S.copies ∙ ap (λ (z : Shape). z.callers) (sym shape));
-  ready = ready;
-  reserved = let r = S.reserved in let l = len in let c = capacity in let w = waiting in omega arith;
-  copied = λ d w. let was = ap (λ (s : State). s.callers d) same in ap (λ (v : Vec (List Op) Global). copy_at v.items d) copies ∙ (S.copied d (ap (λ (k : Caller). awaits k.turn) (sym was) ∙ w) ∙ ap (λ (k : Caller). k.ops) (sym was));
+  ready = subst (λ (z : Shape). All (IsReady z.batch) b.calls.items) (sym shape) ready;
+  reserved = let r = S.reserved in let c = capacity in let w = waiting in omega arith;
+  copied = subst (λ (v : List (List Op)). (d : ℕ) → (callers_of b.calls.items d).turn ≢ Idle → length (mine b.history.items d) ≡ length (callers_of b.calls.items d).mine → copy_at v d ≡ (callers_of b.calls.items d).ops) (ap (λ (v : Vec (List Op) Global). v.items) (sym copies))
+      (subst (λ (s : State). (d : ℕ) → (s.callers d).turn ≢ Idle → length (mine s.history d) ≡ length (s.callers d).mine → copy_at a.copies.items d ≡ (s.callers d).ops) (sym same) S.copied);
 }
 
 pub on_ok : {A E P Q : Type 0} → (r : Result A E) → (P → Q) → OnOk r P → OnOk r Q
@@ -144,23 +145,24 @@ on_ok (Err e) f p = tt
 
 -- Lists in which one caller alone goes on, which takes no step.
 module _ (a b : Lists) (S : IsSound a) (c : ℕ) (k' : Caller) (goes : callers_of b.calls.items ≡ put (callers_of a.calls.items) c k') where
-  copied_put : (awaits k'.turn ≡ true → copy_at b.copies.items c ≡ k'.ops) → ((d : ℕ) → d ≢ c → copy_at b.copies.items d ≡ copy_at a.copies.items d)
-      → (d : ℕ) → awaits (callers_of b.calls.items d).turn ≡ true → copy_at b.copies.items d ≡ (callers_of b.calls.items d).ops
-  copied_put own others = subst (λ (f : ℕ → Caller). (d : ℕ) → awaits (f d).turn ≡ true → copy_at b.copies.items d ≡ (f d).ops) (sym goes)
-      (put_all (callers_of a.calls.items) c k' (λ d k. awaits k.turn ≡ true → copy_at b.copies.items d ≡ k.ops) own (λ d apart w. others d apart ∙ S.copied d w))
-
   pub put_sound : Lawful (lane_of a.shape) record { memory = (state_of a).memory; history = (state_of a).history; callers = put (callers_of a.calls.items) c k' }
-      → b.shape ≡ a.shape → b.words ≡ a.words → b.history ≡ a.history → vec_len b.calls ≡ vec_len a.calls → vec_len b.copies ≡ vec_len a.copies → All IsReady b.calls.items
-      → vec_len a.history + count_by (λ k. awaits k.turn) b.calls.items ≤ vec_capacity a.history
-      → (awaits k'.turn ≡ true → copy_at b.copies.items c ≡ k'.ops) → ((d : ℕ) → d ≢ c → copy_at b.copies.items d ≡ copy_at a.copies.items d) → IsSound b
+      → b.shape ≡ a.shape → b.words ≡ a.words → b.history ≡ a.history → vec_len b.calls ≡ vec_len a.calls → vec_len b.copies ≡ vec_len a.copies → All (IsReady a.shape.batch) b.calls.items
+      → all_due b.calls.items ≤ vec_capacity a.history
+      → (k'.turn ≢ Idle → copy_at b.copies.items c ≡ k'.ops) → ((d : ℕ) → d ≢ c → copy_at b.copies.items d ≡ copy_at a.copies.items d) → IsSound b
   put_sound L shape words history calls copies ready reserved own others = record {
     lawful = subst (λ (z : Shape). Lawful (lane_of z) (state_of b)) (sym shape)
         (subst (Lawful (lane_of a.shape)) (λ i. record { memory = memory_of (sym words i); history = (sym history i).items; callers = sym goes i }) L);
-    links = ap (λ (w : Words). vec_len w.links) words ∙ (S.links ∙ ap rows_of (sym shape));
-    values = ap (λ (w : Words). vec_len w.values) words ∙ (S.values ∙ ap rows_of (sym shape));
+    sizes = ap (λ (w : Words). sizes_of w) words ∙ (S.sizes ∙ ap (λ (z : Shape). sizes_for (rows_of z) (anns_of z)) (sym shape));
     calls = calls ∙ (S.calls ∙ ap (λ (z : Shape). z.callers) (sym shape));
     copies = copies ∙ (S.copies ∙ ap (λ (z : Shape). z.callers) (sym shape));
-    ready = ready;
-    reserved = let n = ap (λ (v : Vec Group Global). vec_len v) history in let m = ap (λ (v : Vec Group Global). vec_capacity v) history in let r = reserved in omega arith;
-    copied = copied_put own others;
+    ready = subst (λ (z : Shape). All (IsReady z.batch) b.calls.items) (sym shape) ready;
+    reserved = let m = ap (λ (v : Vec Group Global). vec_capacity v) history in let r = reserved in omega arith;
+    copied = subst (λ (v : Vec Group Global). (d : ℕ) → (callers_of b.calls.items d).turn ≢ Idle → length (mine v.items d) ≡ length (callers_of b.calls.items d).mine → copy_at b.copies.items d ≡ (callers_of b.calls.items d).ops) (sym history)
+        (subst (λ (f : ℕ → Caller). (d : ℕ) → (f d).turn ≢ Idle → length (mine a.history.items d) ≡ length (f d).mine → copy_at b.copies.items d ≡ (f d).ops) (sym goes)
+        (put_all (callers_of a.calls.items) c k' (λ d k. k.turn ≢ Idle → length (mine a.history.items d) ≡ length k.mine → copy_at b.copies.items d ≡ k.ops) (λ runs _. own runs) (λ d apart runs none. others d apart ∙ S.copied d runs none)));
   }
+
+-- no more is due than the history has, and one of each caller
+pub due_within : (z : Shape) (s : State) (ks : List Call) → Lawful (lane_of z) s → callers_of ks ≡ s.callers → length ks ≡ z.callers → all_due ks ≤ length s.history + z.callers
+due_within z s ks L callers len = let each = total_list due newcomer (map call_of ks) z.callers (let m = length-map ks call_of in let n = len in omega arith) in
+    let same = ap (λ (f : ℕ → Caller). total z.callers (λ d. due (f d))) callers in let most = due_groups (lane_of z) s L in omega arith

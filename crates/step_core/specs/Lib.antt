@@ -1,7 +1,8 @@
 -- The machine's state as contracts see it.
 pub mod Words
 pub mod Calls
-pub mod Waiting
+pub mod Due
 pub mod Lists
 pub mod Machine
+pub mod Commands
 pub mod Schedule

@@ -1,7 +1,9 @@
 -- The machine's lists as the state of a lane.
-use Rattle.std.specs.Prelude.{◌≡◌, ℕ, ◌+◌, ◌≤◌, true, List, [], slice_index_or, vec_len, vec_capacity, map, count_by, All}
+use Rattle.std.specs.Prelude.{◌≡◌, ◌≢◌, ℕ, ◌<◌, ◌≤◌, List, [], slice_index_or, vec_len, vec_capacity, length, map, sum_by, All}
 use Rattle.bq_model.specs.declared.op.Op.{Op}
-use Rattle.word_rows.specs.Sizes.{rows_of}
+use Rattle.bq_model.specs.Own.{mine}
+use Rattle.word_rows.specs.Sizes.{rows_of, anns_of}
+use Rattle.core_model.specs.declared.turn.Turn.TheVariants.{Idle}
 use Rattle.core_model.specs.Lane.{lane_of}
 use Rattle.core_model.specs.State.{Caller, State}
 use Rattle.core_model.specs.Start.{newcomer}
@@ -9,8 +11,8 @@ use Rattle.core_model.specs.Lawful.{Lawful}
 use Rattle.step_core.specs.declared.call.Call.{Call}
 use Rattle.step_core.specs.declared.lists.Lists.{Lists}
 use Rattle.step_core.specs.Calls.{call_of, IsReady}
-use Rattle.step_core.specs.Waiting.{awaits}
-use Rattle.step_core.specs.Words.{memory_of}
+use Rattle.step_core.specs.Due.{due}
+use Rattle.step_core.specs.Words.{memory_of, sizes_of, sizes_for}
 
 -- the callers by their numbers
 abbrev pub callers_of : List Call → ℕ → Caller
@@ -23,14 +25,26 @@ state_of m = record { memory = memory_of m.words; history = m.history.items; cal
 abbrev pub copy_at : List (List Op) → ℕ → List Op
 copy_at copies c = slice_index_or copies c []
 
+-- how many groups there will be when all running commands have ended
+abbrev pub all_due : List Call → ℕ
+all_due ks = sum_by due (map call_of ks)
+
+-- there is room and a copy for the group of this caller's running command
+pub record MayLand (m : Lists) (c : ℕ) : Type 0 where
+  pub inside : c < vec_len m.calls
+  pub with_copy : c < vec_len m.copies
+  pub room : vec_len m.history < vec_capacity m.history
+  pub copied : copy_at m.copies.items c ≡ (callers_of m.calls.items c).ops
+
 -- The lists show a lawful lane, and all memory that its steps need is there.
 pub record IsSound (m : Lists) : Type 0 where
   pub lawful : Lawful (lane_of m.shape) (state_of m)
-  pub links : vec_len m.words.links ≡ rows_of m.shape
-  pub values : vec_len m.words.values ≡ rows_of m.shape
+  pub sizes : sizes_of m.words ≡ sizes_for (rows_of m.shape) (anns_of m.shape)
   pub calls : vec_len m.calls ≡ m.shape.callers
   pub copies : vec_len m.copies ≡ m.shape.callers
-  pub ready : All IsReady m.calls.items
-  -- there is room for the group of each command whose group is still to come, and a copy of its operations
-  pub reserved : vec_len m.history + count_by (λ k. awaits k.turn) m.calls.items ≤ vec_capacity m.history
-  pub copied : (c : ℕ) → awaits (callers_of m.calls.items c).turn ≡ true → copy_at m.copies.items c ≡ (callers_of m.calls.items c).ops
+  pub ready : All (IsReady m.shape.batch) m.calls.items
+  -- there is room for the group of each running command, whoever adds it to the history
+  pub reserved : all_due m.calls.items ≤ vec_capacity m.history
+  -- and where it isn't there yet, a copy of its operations
+  pub copied : (c : ℕ) → (callers_of m.calls.items c).turn ≢ Idle → length (mine m.history.items c) ≡ length (callers_of m.calls.items c).mine
+      → copy_at m.copies.items c ≡ (callers_of m.calls.items c).ops

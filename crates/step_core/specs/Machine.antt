@@ -1,15 +1,15 @@
 -- What contracts see of a machine.
-use Rattle.std.specs.Prelude.{ℕ, List, [], ◌∷◌, map, slice_index_or}
-use Rattle.bq_model.specs.declared.op.Op.{Op}
+use Rattle.std.specs.Prelude.{ℕ, List, map, slice_index_or, Option, None}
 use Rattle.bq_model.specs.declared.group.Group.{Group}
 use Rattle.bq_model.specs.declared.shape.Shape.{Shape}
 use Rattle.word_rows.specs.declared.place.Place.{Place}
 use Rattle.word_rows.specs.declared.head_word.HeadWord.{HeadWord}
 use Rattle.word_rows.specs.declared.link_word.LinkWord.{LinkWord}
 use Rattle.word_rows.specs.declared.link_word.LinkWord.TheVariants.{Nil}
-use Rattle.core_model.specs.Lane.{Lane}
+use Rattle.core_model.specs.declared.turn.Notice.{Notice}
+use Rattle.core_model.specs.Notices.{blank}
 use Rattle.core_model.specs.State.{Caller, State}
-use Rattle.core_model.specs.Start.{newcomer, start}
+use Rattle.core_model.specs.Start.{newcomer}
 use Rattle.step_core.specs.declared.lists.Lists.{Lists}
 use Rattle.step_core.specs.Calls.{call_of}
 
@@ -20,6 +20,9 @@ pub record View : Type 0 where
   pub tail : Place
   pub links : List LinkWord
   pub values : List ℕ
+  -- of each announcement OldTail, and what it says else
+  pub old_tails : List (Option Place)
+  pub notices : List Notice
   pub history : List Group
   pub callers : List Caller
 
@@ -29,7 +32,14 @@ caller_at v c = slice_index_or v.callers c newcomer
 -- the state of the lane that it shows
 abbrev pub state_at : View → State
 state_at v = record {
-  memory = record { head = v.head; tail = v.tail; link = λ r. slice_index_or v.links r Nil; value = λ r. slice_index_or v.values r 0 };
+  memory = record {
+    head = v.head;
+    tail = v.tail;
+    link = λ r. slice_index_or v.links r Nil;
+    value = λ r. slice_index_or v.values r 0;
+    old_tail = λ a. slice_index_or v.old_tails a None;
+    said = λ a. slice_index_or v.notices a blank;
+  };
   history = v.history;
   callers = caller_at v;
 }
@@ -41,11 +51,8 @@ view_of m = record {
   tail = m.words.tail;
   links = m.words.links.items;
   values = m.words.values.items;
+  old_tails = m.words.old_tails.items;
+  notices = m.words.notices.items;
   history = m.history.items;
   callers = map call_of m.calls.items;
 }
-
--- the start of a command with these operations, of which there is one
-abbrev pub start_of : Lane → State → ℕ → List Op → State
-start_of z s c [] = s
-start_of z s c (op ∷ ops) = start z s c op

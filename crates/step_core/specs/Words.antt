@@ -1,13 +1,35 @@
 -- The words of the machine as the memory of a lane.
-use Rattle.std.specs.Prelude.{ℕ, slice_index_or}
+use Rattle.std.specs.Prelude.{ℕ, slice_index_or, vec_len, None}
 use Rattle.word_rows.specs.declared.head_word.HeadWord.TheVariants.{Node}
 use Rattle.word_rows.specs.declared.link_word.LinkWord.TheVariants.{Nil}
-use Rattle.core_model.specs.State.{Memory, place}
+use Rattle.core_model.specs.Notices.{place, blank}
+use Rattle.core_model.specs.State.{Memory}
 use Rattle.step_core.specs.declared.words.Words.{Words}
 
 abbrev pub memory_of : Words → Memory
-memory_of w = record { head = w.head; tail = w.tail; link = λ r. slice_index_or w.links.items r Nil; value = λ r. slice_index_or w.values.items r 0 }
+memory_of w = record {
+  head = w.head;
+  tail = w.tail;
+  link = λ r. slice_index_or w.links.items r Nil;
+  value = λ r. slice_index_or w.values.items r 0;
+  old_tail = λ a. slice_index_or w.old_tails.items a None;
+  said = λ a. slice_index_or w.notices.items a blank;
+}
 
 -- the words of an empty lane
 abbrev pub opening_words : ℕ → Memory
-opening_words first = record { head = Node (place 0 first); tail = place 0 first; link = λ _. Nil; value = λ _. 0 }
+opening_words first = record { head = Node (place 0 first); tail = place 0 first; link = λ _. Nil; value = λ _. 0; old_tail = λ _. None; said = λ _. blank }
+
+-- how many words of each kind there are
+pub record Sizes : Type 0 where
+  pub links : ℕ
+  pub values : ℕ
+  pub old_tails : ℕ
+  pub notices : ℕ
+
+abbrev pub sizes_of : Words → Sizes
+sizes_of w = record { links = vec_len w.links; values = vec_len w.values; old_tails = vec_len w.old_tails; notices = vec_len w.notices }
+
+-- those of a lane with so many rows and announcements
+abbrev pub sizes_for : ℕ → ℕ → Sizes
+sizes_for rows anns = record { links = rows; values = rows; old_tails = anns; notices = anns }

@@ -1,12 +1,16 @@
 // What the machine keeps of a caller. All memory that a command's steps need is there before its first step.
-ghost use Rattle.std.specs.Prelude.{◌≡◌, ◌+◌, ◌^◌, ◌<◌, IfOk, OnOk, OnErr, [], ◌∷◌, length, IsTrue, vec_len, vec_capacity, Some, None};
+ghost use Rattle.std.specs.Prelude.{◌≡◌, ◌≢◌, ℕ, ◌+◌, ◌++◌, ◌^◌, ◌<◌, ◌≤◌, IfOk, OnOk, [], ◌∷◌, length, slice_index, vec_len, vec_capacity, Some, None};
 ghost use Rattle.bq_model.specs.History.{operations};
-ghost use Rattle.core_model.specs.Step.{after, ended};
+ghost use Rattle.excess_count.specs.Got.{enqueued};
+ghost use Rattle.core_model.specs.declared.turn.Turn.TheVariants.{BatchValue};
+ghost use Rattle.core_model.specs.Batches.{paired};
+ghost use Rattle.core_model.specs.Step.{after, ended, reads_on, turned};
 ghost use Rattle.core_model.specs.Start.{newcomer};
-ghost use Rattle.step_core.specs.Calls.{call_of, IsReady, MayEnd};
+ghost use Rattle.step_core.specs.Calls.{call_of, IsReady, MayEnd, MayGo};
 
-use bq_model::{Answer, Answers, Group, Op, Ops, OutOfMemory};
-use core_model::{CallEnd, Course, Turn};
+use crate::pairing::pair;
+use bq_model::{Answer, Answers, Group, Ops, OutOfMemory};
+use core_model::{CallEnd, Course, Draft, Turn};
 use std::alloc::Global;
 use std::mem;
 use word_rows::Content;
@@ -19,12 +23,17 @@ pub struct Call {
     pub turn: Turn,
     /// The operations of the running command.
     pub ops: Ops,
+    /// The values that they enqueue, in order.
+    pub puts: Vec<u64>,
     /// The groups of the commands that were done.
     pub mine: Vec<Group>,
     /// How many operations they have.
-    pub made: u64,
-    /// How many rows the caller took.
+    pub operations: u64,
+    /// How many rows the caller took, and how many announcements.
     pub taken: u32,
+    pub made: u32,
+    /// The values that it has read for the answers of its batch.
+    pub values: Vec<u64>,
     /// How the last ended command ended, and its answers.
     pub outcome: Option<CallEnd>,
     pub answers: Answers,
@@ -36,17 +45,19 @@ pub struct Call {
 impl Call {
     /// A caller that made no command yet, with memory for the answers of a batch.
     pub fn new(alloc: Global, batch: u32) -> Result<Call, OutOfMemory>
-        requires { 0 < batch }
         ensures newcomer { IfOk result (λ call. call_of call ≡ newcomer) }
-        ensures ready { IfOk result (λ call. IsReady call) }
+        ensures ready { IfOk result (λ call. IsReady batch call) }
     {
         Ok(Call {
             alloc,
             turn: Turn::Idle,
             ops: Ops::new(alloc),
+            puts: Vec::new(alloc),
             mine: Vec::new(alloc),
-            made: 0,
+            operations: 0,
             taken: 0,
+            made: 0,
+            values: Vec::new(alloc),
             outcome: None,
             answers: Answers::new(alloc, batch)?,
             started_at: 0,
@@ -54,36 +65,43 @@ impl Call {
         })
     }
 
-    /// Takes the memory that a command's end needs.
-    pub fn reserve(&mut self) -> Result<(), OutOfMemory>
-        requires { IsReady self.old }
+    /// Takes the memory that a command of so many operations needs, for the values that it reads and for its end.
+    pub fn reserve(&mut self, more: usize) -> Result<(), OutOfMemory>
         ensures same { call_of self.new ≡ call_of self.old }
-        ensures ready { IsReady self.new }
+        ensures ready { (batch : ℕ) → IsReady batch self.old → IsReady batch self.new }
         ensures room { OnOk result (vec_len self.new.mine < vec_capacity self.new.mine) }
+        ensures values { OnOk result (more ≤ vec_capacity self.new.values) }
     {
+        self.values.reserve(more)?;
         self.mine.reserve(1)?;
         Ok(())
     }
 
-    /// A command starts, when the history has `now` groups and the caller then has taken so many rows.
-    pub fn begin(&mut self, turn: Turn, ops: Ops, taken: u32, now: usize)
-        requires ready { IsReady self.old }
+    /// A command starts, when the history has `now` groups and the caller then has taken so many rows and announcements.
+    pub fn begin(&mut self, turn: Turn, ops: Ops, puts: Vec<u64>, taken: u32, made: u32, now: usize)
+        requires ready { IsReady self.old.answers.capacity self.old }
         requires room { vec_len self.old.mine < vec_capacity self.old.mine }
-        ensures begins { call_of self.new ≡ record (call_of self.old) { turn = turn; ops = ops; taken = taken; started_at = now; ended_at = None } }
-        ensures ready { IsReady self.new }
+        requires values { length ops ≤ vec_capacity self.old.values }
+        requires fits { length ops ≤ self.old.answers.capacity }
+        requires puts { puts.items ≡ enqueued ops }
+        ensures begins { call_of self.new ≡ record (call_of self.old) { turn = turn; ops = ops; taken = taken; made = made; values = []; started_at = now; ended_at = None } }
+        ensures ready { IsReady self.old.answers.capacity self.new }
     {
         self.turn = turn;
         self.ops = ops;
+        self.puts = puts;
         self.taken = taken;
+        self.made = made;
+        self.values.clear();
         self.started_at = now;
         self.ended_at = None;
     }
 
     /// A command ends with Full as it starts, when the history has `now` groups.
     pub fn refuse(&mut self, now: usize)
-        requires { IsReady self.old }
+        requires { IsReady self.old.answers.capacity self.old }
         ensures refused { call_of self.new ≡ record (call_of self.old) { outcome = Some CallEnd.Full; answers = []; started_at = now; ended_at = Some now } }
-        ensures ready { IsReady self.new }
+        ensures ready { IsReady self.old.answers.capacity self.new }
     {
         self.outcome = Some(CallEnd::Full);
         self.answers.clear();
@@ -91,37 +109,99 @@ impl Call {
         self.ended_at = Some(now);
     }
 
-    // The command ends with Done, and its group joins the ended ones.
-    fn end(&mut self, caller: u32, answer: Answer, now: usize)
+    // The command ends with Done and the answers that stand there, and its group joins the ended ones.
+    fn end(&mut self, caller: u32, now: usize)
         requires { MayEnd self.old }
-        ensures ended { call_of self.new ≡ ended now caller (call_of self.old) (answer ∷ []) }
-        ensures ready { IsReady self.new }
+        ensures ended { call_of self.new ≡ ended now caller (call_of self.old) self.old.answers.items }
+        ensures ready { IsReady self.old.answers.capacity self.new }
     {
         let ops = mem::replace(&mut self.ops, Ops::new(self.alloc));
-        self.made += ops.len() as u64;
+        self.operations += ops.len() as u64;
         self.mine.push_reserved(Group {
             caller,
             batch: self.mine.len() as u64,
             ops,
         });
+        self.puts.clear();
         self.turn = Turn::Idle;
         self.outcome = Some(CallEnd::Done);
-        self.answers.clear();
-        self.answers.push(answer);
         self.ended_at = Some(now);
     }
-}
 
-impl Call {
+    // It ends with this answer alone.
+    fn end_with(&mut self, caller: u32, answer: Answer, now: usize)
+        requires may { MayEnd self.old }
+        requires some { 0 < self.old.answers.capacity }
+        ensures ended { call_of self.new ≡ ended now caller (call_of self.old) (answer ∷ []) }
+        ensures ready { IsReady self.old.answers.capacity self.new }
+    {
+        self.answers.clear();
+        self.answers.push(answer);
+        self.end(caller, now);
+    }
+
+    // A batch stores the value of its enqueue of this number.
+    fn fill(&mut self, draft: Draft, number: u32)
+        requires { MayEnd self.old }
+        ensures fills { call_of self.new ≡ turned (call_of self.old) (BatchValue draft number (slice_index (enqueued self.old.ops) number)) }
+        ensures ready { IsReady self.old.answers.capacity self.new }
+    {
+        let value = self.puts.get(number as usize).copied().unwrap_or(0);
+        self.turn = Turn::BatchValue(draft, number, value);
+    }
+
+    // A batch on so many values begins to read those that it gets, behind the row. Where there are none, it ends.
+    fn read(&mut self, caller: u32, queued: u64, row: u32, left: u32, now: usize)
+        requires { MayEnd self.old }
+        ensures reads { call_of self.new ≡ reads_on now caller (call_of self.old) queued row left [] }
+        ensures ready { IsReady self.old.answers.capacity self.new }
+    {
+        if left == 0 {
+            pair(self.ops.as_slice(), queued, &[], &mut self.answers);
+            self.end(caller, now);
+        } else {
+            self.values.clear();
+            self.turn = Turn::AnswerLink(queued, row, left - 1);
+        }
+    }
+
+    // It has read this value, the one of the row. Where no more are left, it ends.
+    fn read_more(&mut self, caller: u32, queued: u64, row: u32, left: u32, value: u64, now: usize)
+        requires may { MayEnd self.old }
+        requires room { vec_len self.old.values < vec_capacity self.old.values }
+        ensures reads { call_of self.new ≡ reads_on now caller (call_of self.old) queued row left (self.old.values.items ++ value ∷ []) }
+        ensures ready { IsReady self.old.answers.capacity self.new }
+    {
+        self.values.push_reserved(value);
+        if left == 0 {
+            pair(
+                self.ops.as_slice(),
+                queued,
+                self.values.as_slice(),
+                &mut self.answers,
+            );
+            // The answers have it now.
+            self.values.pop();
+            self.end(caller, now);
+        } else {
+            self.turn = Turn::AnswerLink(queued, row, left - 1);
+        }
+    }
+
     /// The caller goes on after the step that found this in its word, when the history has `now` groups.
     pub fn go(&mut self, caller: u32, found: Content, now: usize)
-        requires { MayEnd self.old }
+        requires { MayGo self.old }
         ensures goes { call_of self.new ≡ after now caller (call_of self.old) self.old.turn found }
-        ensures ready { IsReady self.new }
+        ensures ready { IsReady self.old.answers.capacity self.new }
     {
         match self.turn.course(found) {
             Course::GoesOn(turn) => self.turn = turn,
-            Course::Ends(answer) => self.end(caller, answer, now),
+            Course::Ends(answer) => self.end_with(caller, answer, now),
+            Course::Fills(draft, number) => self.fill(draft, number),
+            Course::Reads(queued, row, left) => self.read(caller, queued, row, left, now),
+            Course::ReadsMore(queued, row, left, value) => {
+                self.read_more(caller, queued, row, left, value, now)
+            }
         }
     }
 }

@@ -15,7 +15,7 @@ ghost use Rattle.step_core.specs.Schedule.{schedule};
 /// each command that was done stands in the history once, with the replay's answers at its place.
 pub fn every_schedule_leaves_a_lawful_lane()
     ensures lawful { (shape : Shape) (events : List Event) (s : State)
-        → schedule (lane_of shape) (opening (lane_of shape)) 0 events ≡ Ok s → Lawful (lane_of shape) s }
+        → schedule shape (opening (lane_of shape)) 0 events ≡ Ok s → Lawful (lane_of shape) s }
     ensures done { (shape : Shape) (events : List Event) (s : State) (c : ℕ)
-        → schedule (lane_of shape) (opening (lane_of shape)) 0 events ≡ Ok s → (s.callers c).turn ≡ Idle → (s.callers c).outcome ≡ Some Done → EndedDone s c }
+        → schedule shape (opening (lane_of shape)) 0 events ≡ Ok s → (s.callers c).turn ≡ Idle → (s.callers c).outcome ≡ Some Done → EndedDone s c }
 {}

@@ -1,15 +1,15 @@
 // The machine's state in lists. It shows a lawful lane between any two steps, and all memory that the running commands
 // will need is there.
-ghost use Rattle.std.specs.Prelude.{◌≡◌, ◌≢◌, ℕ, ◌+◌, ◌<◌, ◌≤◌, ◌++◌, IsTrue, IfOk, IfSome, length, slice_get, cond, count_by, All, Some, vec_len, vec_capacity};
+ghost use Rattle.std.specs.Prelude.{◌≡◌, ◌≢◌, ℕ, ◌+◌, ◌<◌, ◌≤◌, ◌++◌, [], ◌∷◌, IsTrue, IfOk, IfSome, length, slice_get, cond, All, vec_len, vec_capacity, Some};
 ghost use Rattle.core_model.specs.declared.turn.Turn.TheVariants.{Idle};
 ghost use Rattle.core_model.specs.Functions.{put};
 ghost use Rattle.core_model.specs.Kind.{kind_of};
 ghost use Rattle.core_model.specs.Lane.{lane_of};
 ghost use Rattle.core_model.specs.Start.{newcomer, opening};
-ghost use Rattle.core_model.specs.Step.{after, grows, grown, next};
-ghost use Rattle.step_core.specs.Calls.{call_of, IsReady, MayEnd};
-ghost use Rattle.step_core.specs.Lists.{callers_of, state_of, copy_at, IsSound};
-ghost use Rattle.step_core.specs.Waiting.{awaits};
+ghost use Rattle.core_model.specs.Step.{after, grows, grown, lander, next, own_group};
+ghost use Rattle.step_core.specs.Calls.{call_of, IsReady, MayGo};
+ghost use Rattle.step_core.specs.Due.{due};
+ghost use Rattle.step_core.specs.Lists.{callers_of, state_of, copy_at, all_due, MayLand, IsSound};
 
 use crate::call::Call;
 use crate::words::Words;
@@ -17,14 +17,13 @@ use bq_model::{Group, Ops, OutOfMemory, Shape};
 use core_model::{StepKind, Turn};
 use std::alloc::Global;
 use std::mem;
-use word_rows::{Content, rows};
+use word_rows::{Content, anns, rows};
 
 // So many callers that made no command yet.
 fn newcomers(alloc: Global, callers: u32, batch: u32) -> Result<Vec<Call>, OutOfMemory>
-    requires { 0 < batch }
     ensures len { IfOk result (λ calls. vec_len calls ≡ callers) }
     ensures newcomers { IfOk result (λ calls. All (λ call. call_of call ≡ newcomer) calls.items) }
-    ensures ready { IfOk result (λ calls. All IsReady calls.items) }
+    ensures ready { IfOk result (λ calls. All (IsReady batch) calls.items) }
 {
     let mut calls = Vec::new(alloc);
     for _made in 0..callers {
@@ -55,6 +54,16 @@ pub struct Lists {
     pub copies: Vec<Ops>,
 }
 
+// Whose group the step adds to the history: that of the announcement's owner where it links a chain, else its caller's.
+fn lander(shape: &Shape, caller: u32, turn: Turn) -> u32
+    ensures { result ≡ lander (lane_of shape.now) caller turn }
+{
+    match turn {
+        Turn::LinkChain(help, _) => help.ann / shape.callers(),
+        _ => caller,
+    }
+}
+
 impl Lists {
     /// An empty lane, whose callers are idle.
     pub fn new(alloc: Global, shape: Shape) -> Result<Lists, OutOfMemory>
@@ -62,7 +71,12 @@ impl Lists {
         ensures sound { IfOk result (λ lists. IsSound lists) }
         ensures shape { IfOk result (λ lists. lists.shape ≡ shape) }
     {
-        let words = Words::new(alloc, rows(&shape) as usize, shape.first_count())?;
+        let words = Words::new(
+            alloc,
+            rows(&shape) as usize,
+            anns(&shape) as usize,
+            shape.first_count(),
+        )?;
         let calls = newcomers(alloc, shape.callers(), shape.batch())?;
         let copies = no_copies(alloc, shape.callers())?;
         Ok(Lists {
@@ -90,39 +104,55 @@ impl Lists {
         self.calls[caller as usize].mine.len() as u64
     }
 
-    // The history grows by the caller's group where the step adds it.
-    fn grow(&mut self, caller: u32, turn: Turn, found: Content)
+    // The history grows by this caller's group, whose operations are those of its copy.
+    fn land(&mut self, caller: u32)
         requires calls { caller < vec_len self.old.calls }
         requires copies { caller < vec_len self.old.copies }
-        requires room { IsTrue (grows turn found) → vec_len self.old.history < vec_capacity self.old.history }
-        requires copied { IsTrue (grows turn found) → copy_at self.old.copies.items caller ≡ (callers_of self.old.calls.items caller).ops }
-        ensures history { self.new.history.items ≡ self.old.history.items ++ grown (callers_of self.old.calls.items) caller turn found }
-        ensures len { vec_len self.new.history ≡ vec_len self.old.history + cond (grows turn found) 1 0 }
+        requires room { vec_len self.old.history < vec_capacity self.old.history }
+        requires copied { copy_at self.old.copies.items caller ≡ (callers_of self.old.calls.items caller).ops }
+        ensures history { self.new.history.items ≡ self.old.history.items ++ own_group caller (callers_of self.old.calls.items caller) ∷ [] }
+        ensures len { vec_len self.new.history ≡ vec_len self.old.history + 1 }
         ensures capacity { vec_capacity self.new.history ≡ vec_capacity self.old.history }
         ensures others { (c : ℕ) → c ≢ caller → copy_at self.new.copies.items c ≡ copy_at self.old.copies.items c }
         ensures copies_len { vec_len self.new.copies ≡ vec_len self.old.copies }
+        ensures shape { self.new.shape ≡ self.old.shape }
+        ensures words { self.new.words ≡ self.old.words }
+        ensures calls_stay { self.new.calls ≡ self.old.calls }
+    {
+        let batch = self.batch(caller);
+        let ops = mem::replace(&mut self.copies[caller as usize], Ops::new(self.alloc));
+        self.history.push_reserved(Group { caller, batch, ops });
+    }
+
+    // The history grows by the group that the step of the caller adds, if it adds one.
+    fn grow(&mut self, caller: u32, turn: Turn, found: Content)
+        requires lands { IsTrue (grows turn found) → MayLand self.old (lander (lane_of self.old.shape) caller turn) }
+        ensures history { self.new.history.items ≡ self.old.history.items ++ grown (lane_of self.old.shape) (callers_of self.old.calls.items) caller turn found }
+        ensures len { vec_len self.new.history ≡ vec_len self.old.history + cond (grows turn found) 1 0 }
+        ensures capacity { vec_capacity self.new.history ≡ vec_capacity self.old.history }
+        ensures others { (c : ℕ) → c ≢ lander (lane_of self.old.shape) caller turn → copy_at self.new.copies.items c ≡ copy_at self.old.copies.items c }
         ensures no_growth { ¬ (IsTrue (grows turn found)) → self.new.copies ≡ self.old.copies }
+        ensures copies_len { vec_len self.new.copies ≡ vec_len self.old.copies }
         ensures shape { self.new.shape ≡ self.old.shape }
         ensures words { self.new.words ≡ self.old.words }
         ensures calls_stay { self.new.calls ≡ self.old.calls }
     {
         if turn.grows(found) {
-            let batch = self.batch(caller);
-            let ops = mem::replace(&mut self.copies[caller as usize], Ops::new(self.alloc));
-            self.history.push_reserved(Group { caller, batch, ops });
+            let caller = lander(&self.shape, caller, turn);
+            self.land(caller);
         }
     }
 
     // The caller goes on.
     fn go(&mut self, caller: u32, found: Content)
         requires inside { caller < vec_len self.old.calls }
-        requires may_end { IfSome (slice_get self.old.calls.items caller) MayEnd }
-        requires ready { All IsReady self.old.calls.items }
+        requires may_go { IfSome (slice_get self.old.calls.items caller) MayGo }
+        requires ready { All (IsReady self.old.shape.batch) self.old.calls.items }
         ensures callers { callers_of self.new.calls.items ≡ put (callers_of self.old.calls.items) caller
             (after (vec_len self.old.history) caller (callers_of self.old.calls.items caller) (callers_of self.old.calls.items caller).turn found) }
-        ensures waiting { count_by (λ k. awaits k.turn) self.new.calls.items + cond (awaits (callers_of self.old.calls.items caller).turn) 1 0
-            ≡ count_by (λ k. awaits k.turn) self.old.calls.items + cond (awaits (callers_of self.new.calls.items caller).turn) 1 0 }
-        ensures ready { All IsReady self.new.calls.items }
+        ensures due { all_due self.new.calls.items + due (callers_of self.old.calls.items caller)
+            ≡ all_due self.old.calls.items + due (callers_of self.new.calls.items caller) }
+        ensures ready { All (IsReady self.old.shape.batch) self.new.calls.items }
         ensures len { vec_len self.new.calls ≡ vec_len self.old.calls }
         ensures rest { (self.new.shape ≡ self.old.shape) × (self.new.words ≡ self.old.words) × (self.new.history ≡ self.old.history) × (self.new.copies ≡ self.old.copies) }
     {
@@ -136,7 +166,7 @@ impl Lists {
         requires sound { IsSound self.old }
         requires known { caller < self.old.shape.callers }
         requires runs { ((state_of self.old).callers caller).turn ≢ Idle }
-        ensures step { state_of self.new ≡ next (state_of self.old) caller }
+        ensures step { state_of self.new ≡ next (lane_of self.old.shape) (state_of self.old) caller }
         ensures kind { kind_of ((state_of self.old).callers caller).turn ≡ Some result }
         ensures sound { IsSound self.new }
         ensures shape { self.new.shape ≡ self.old.shape }

@@ -1,18 +1,15 @@
 // A machine, which shows a lawful lane between any two steps.
-ghost use Rattle.std.specs.Prelude.{◌≡◌, ◌≢◌, ◌↔◌, ◌+◌, ◌<◌, IfOk, IsNone, Ok, Some, [], length};
-ghost use Rattle.bq_model.specs.History.{operations};
+ghost use Rattle.std.specs.Prelude.{◌≡◌, ◌≢◌, ◌↔◌, ◌<◌, ◌≤◌, IfOk, IsNone, Ok, Some, [], length};
 ghost use Rattle.bq_model.specs.Own.{mine};
 ghost use Rattle.bq_model.specs.Proper.{IsProper};
-ghost use Rattle.excess_count.specs.Excess.{enqueue_count};
-ghost use Rattle.word_rows.specs.Sizes.{items_of};
 ghost use Rattle.core_model.specs.declared.turn.Turn.TheVariants.{Idle};
 ghost use Rattle.core_model.specs.Kept.{LastDone};
 ghost use Rattle.core_model.specs.Lane.{lane_of};
 ghost use Rattle.core_model.specs.Kind.{kind_of};
 ghost use Rattle.core_model.specs.Step.{next};
-ghost use Rattle.core_model.specs.Start.{PassesAllowance, opening};
+ghost use Rattle.core_model.specs.Start.{PassesAllowance, IsCommand, LacksRows, start, opening};
 ghost use Rattle.core_model.specs.Lawful.{Lawful};
-ghost use Rattle.step_core.specs.Machine.{caller_at, state_at, start_of};
+ghost use Rattle.step_core.specs.Machine.{caller_at, state_at};
 
 use crate::lists::Lists;
 use crate::starts::Started;
@@ -59,28 +56,36 @@ impl Machine {
         self.lists.shape.callers()
     }
 
-    /// Starts a command of an idle caller. It takes all memory that the command's steps need. A command for which no row is
-    /// left ends with Full at once.
+    /// The most operations of a batch.
+    pub fn batch(&self) -> u32
+        ensures { result ≡ self.now.shape.batch }
+    {
+        self.lists.shape.batch()
+    }
+
+    /// Starts a command of an idle caller: one operation is a plain call, and more are a batch, which has an enqueue. It takes
+    /// all memory that the command's steps need. A command for which no row or no announcement is left ends with Full at once.
     pub fn start(&mut self, caller: u32, ops: &[Op]) -> Result<Started, OutOfMemory>
         requires known { caller < self.old.shape.callers }
         requires idle { (caller_at self.old caller).turn ≡ Idle }
-        requires one { length ops.now ≡ 1 }
+        requires command { IsCommand ops.now }
+        requires most { length ops.now ≤ self.old.shape.batch }
         ensures spent { (result ≡ Ok Started.Spent) ↔ PassesAllowance (lane_of self.old.shape) (caller_at self.old caller) (length ops.now) }
-        ensures running { (result ≡ Ok Started.Running) → state_at self.new ≡ start_of (lane_of self.old.shape) (state_at self.old) caller ops.now }
+        ensures running { (result ≡ Ok Started.Running) → state_at self.new ≡ start (lane_of self.old.shape) (state_at self.old) caller ops.now }
         ensures full { (result ≡ Ok Started.Running) → ((caller_at self.new caller).turn ≡ Idle)
-            ↔ (items_of self.old.shape < enqueue_count (operations (mine self.old.history caller)) + enqueue_count ops.now) }
+            ↔ LacksRows (lane_of self.old.shape) (mine self.old.history caller) ops.now }
         ensures refusal_changes_nothing { result ≢ Ok Started.Running → state_at self.new ≡ state_at self.old }
         ensures shape { self.new.shape ≡ self.old.shape }
     {
-        let op = ops[0];
-        self.lists.start(caller, op)
+        self.lists.start(caller, ops)
     }
 
-    /// Makes the next atomic step of a caller that is not idle, and gives its kind. It takes no memory.
+    /// Makes the next atomic step of a caller that is not idle, and gives its kind. It takes no memory. The last step of a
+    /// batch also pairs its answers, at a cost of its length.
     pub fn step(&mut self, caller: u32) -> StepKind
         requires known { caller < self.old.shape.callers }
         requires runs { (caller_at self.old caller).turn ≢ Idle }
-        ensures step { state_at self.new ≡ next (state_at self.old) caller }
+        ensures step { state_at self.new ≡ next (lane_of self.old.shape) (state_at self.old) caller }
         ensures kind { kind_of (caller_at self.old caller).turn ≡ Some result }
         ensures shape { self.new.shape ≡ self.old.shape }
     {

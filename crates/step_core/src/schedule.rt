@@ -5,12 +5,15 @@ ghost use Rattle.step_core.specs.declared.schedule.ScheduleRefused.TheVariants.{
 ghost use Rattle.core_model.specs.Lane.{lane_of};
 ghost use Rattle.core_model.specs.Start.{opening};
 ghost use Rattle.step_core.specs.Machine.{caller_at, state_at};
-ghost use Rattle.step_core.specs.Schedule.{is_idle, cause_of, after_event, schedule};
+ghost use Rattle.step_core.specs.Commands.{is_command};
+ghost use Rattle.step_core.specs.Due.{is_idle};
+ghost use Rattle.step_core.specs.Schedule.{cause_of, after_event, schedule};
 
 use crate::machine::Machine;
 use crate::starts::Started;
-use bq_model::{Ops, OutOfMemory, Shape};
+use bq_model::{Op, Ops, OutOfMemory, Shape};
 use core_model::StepKind;
+use excess_count::count;
 use std::alloc::Global;
 
 /// Something that happens to a machine.
@@ -35,7 +38,7 @@ pub enum Event {
 pub enum EventCause {
     /// There is no such caller.
     BadCaller,
-    /// A command is started with no operation, or with two or more.
+    /// A command is started with no operation, with more than the lane takes in a batch, or with several dequeues alone.
     BadBatch,
     /// A command is started by a caller that runs one.
     BusyCaller,
@@ -79,15 +82,25 @@ impl Machine {
         caller < self.callers()
     }
 
+    // Whether the lane takes the operations as a command.
+    fn takes(&self, ops: &[Op]) -> bool
+        ensures { result ≡ is_command self.now.shape.batch ops.now }
+    {
+        if ops.len() > self.batch() as usize {
+            return false;
+        }
+        ops.len() == 1 || count(ops).enqs > 0
+    }
+
     // Why the event cannot happen now.
-    fn cause(&self, event: &Event) -> Option<EventCause>
-        ensures { result ≡ cause_of (lane_of self.now.shape) (state_at self.now) event.now }
+    pub(crate) fn cause(&self, event: &Event) -> Option<EventCause>
+        ensures { result ≡ cause_of self.now.shape (state_at self.now) event.now }
     {
         match event {
             Event::Start { caller, ops } => {
                 if !self.is_caller(*caller) {
                     Some(EventCause::BadCaller)
-                } else if ops.len() != 1 {
+                } else if !self.takes(ops.as_slice()) {
                     Some(EventCause::BadBatch)
                 } else if !self.is_idle(*caller) {
                     Some(EventCause::BusyCaller)
@@ -108,9 +121,9 @@ impl Machine {
     }
 
     // The event happens.
-    fn happen(&mut self, event: &Event) -> Result<(), OutOfMemory>
-        requires { cause_of (lane_of self.old.shape) (state_at self.old) event.now ≡ None }
-        ensures after { OnOk result (state_at self.new ≡ after_event (lane_of self.old.shape) (state_at self.old) event.now) }
+    pub(crate) fn happen(&mut self, event: &Event) -> Result<(), OutOfMemory>
+        requires { cause_of self.old.shape (state_at self.old) event.now ≡ None }
+        ensures after { OnOk result (state_at self.new ≡ after_event self.old.shape (state_at self.old) event.now) }
         ensures shape { self.new.shape ≡ self.old.shape }
     {
         match event {
@@ -131,10 +144,10 @@ pub fn run_schedule(
     shape: &Shape,
     events: &[Event],
 ) -> Result<Machine, ScheduleRefused>
-    ensures ran { IfOk result (λ machine. schedule (lane_of shape.now) (opening (lane_of shape.now)) 0 events.now ≡ Ok (state_at machine)) }
+    ensures ran { IfOk result (λ machine. schedule shape.now (opening (lane_of shape.now)) 0 events.now ≡ Ok (state_at machine)) }
     ensures shape { IfOk result (λ machine. machine.shape ≡ shape.now) }
     ensures first_cause { (event : ℕ) (cause : EventCause) → result ≡ Err (ScheduleRefused.At event cause)
-        → schedule (lane_of shape.now) (opening (lane_of shape.now)) 0 events.now ≡ Err (event, cause) }
+        → schedule shape.now (opening (lane_of shape.now)) 0 events.now ≡ Err (event, cause) }
 {
     let mut machine = Machine::new(alloc, shape)?;
     for (event, happening) in events.iter().enumerate() {

@@ -1,16 +1,24 @@
 // The start of a command on the machine's lists.
-ghost use Rattle.std.specs.Prelude.{◌≡◌, ◌≢◌, ◌↔◌, ◌+◌, ◌<◌, ◌≤◌, [], ◌∷◌, true, Ok, IsTrue, IfOk, IfSome, OnOk, slice_get, length, vec_len, vec_capacity};
+ghost use Rattle.std.specs.Prelude.{◌≡◌, ◌≢◌, ◌↔◌, ℕ, ◌+◌, ◌++◌, ◌<◌, ◌≤◌, ◌^◌, true, List, [], ◌∷◌, Ok, IsTrue, IfOk, IfSome, OnOk, slice_get, length, vec_len, vec_capacity};
+ghost use Rattle.bq_model.specs.declared.op.Op.{Op};
+ghost use Rattle.excess_count.specs.Counts.{counts_of};
+ghost use Rattle.excess_count.specs.Excess.{enqueue_count};
+ghost use Rattle.excess_count.specs.Got.{enqueued};
+ghost use Rattle.word_rows.specs.Sizes.{items_of};
 ghost use Rattle.core_model.specs.declared.turn.Turn.TheVariants.{Idle};
+ghost use Rattle.core_model.specs.Batches.{notice_of};
 ghost use Rattle.core_model.specs.Functions.{put};
-ghost use Rattle.core_model.specs.Lane.{lane_of, item};
-ghost use Rattle.core_model.specs.Start.{PassesAllowance, has_row, first_turn, rows_taken, started, refused, start};
+ghost use Rattle.core_model.specs.Lane.{lane_of};
+ghost use Rattle.core_model.specs.Start.{PassesAllowance, IsCommand, anns_taken, has_rows, draft_of, first_turn, started, refused, start};
+ghost use Rattle.core_model.specs.State.{Caller};
 ghost use Rattle.step_core.specs.Lists.{callers_of, state_of, IsSound};
 
 use crate::lists::Lists;
 use bq_model::{Op, Ops, OutOfMemory, Shape};
-use core_model::{Item, Turn};
+use core_model::{Draft, Item, Notice, Turn};
+use excess_count::{Counts, count};
 use std::alloc::Global;
-use word_rows::{item_row, items};
+use word_rows::{BatchCounts, BatchNumber, Place, item_row, items, order_word, own_ann};
 
 /// What became of the start of a command.
 #[derive(Clone, Copy, Debug, PartialEq, Eq, Hash)]
@@ -21,12 +29,130 @@ pub enum Started {
     Spent,
 }
 
-fn single(alloc: Global, op: Op) -> Result<Ops, OutOfMemory>
-    ensures { IfOk result (λ ops. ops ≡ op ∷ []) }
+// The operations once more.
+fn copied(alloc: Global, ops: &[Op]) -> Result<Ops, OutOfMemory>
+    ensures { IfOk result (λ copy. copy ≡ ops.now) }
 {
-    let mut ops = Ops::new(alloc);
-    ops.push(op)?;
-    Ok(ops)
+    Ok(Ops::from(ops.to_vec(alloc)?))
+}
+
+// The values that they enqueue, in order.
+fn puts_of(alloc: Global, ops: &[Op]) -> Result<Vec<u64>, OutOfMemory>
+    ensures { IfOk result (λ puts. puts.items ≡ enqueued ops.now) }
+{
+    let mut puts = Vec::new(alloc);
+    for op in ops {
+        put_value(&mut puts, *op)?;
+    }
+    Ok(puts)
+}
+
+// Appends the value that the operation enqueues, if any.
+fn put_value(puts: &mut Vec<u64>, op: Op) -> Result<(), OutOfMemory>
+    ensures { OnOk result (puts.new.items ≡ puts.old.items ++ enqueued (op ∷ [])) }
+{
+    match op {
+        Op::Enq(value) => puts.push(value)?,
+        Op::Deq => {}
+    }
+    Ok(())
+}
+
+// How many announcements a command of so many operations takes.
+fn anns_taken(operations: usize) -> u32
+    ensures taken { (ops : List Op) → operations ≡ length ops → result ≡ anns_taken ops }
+    ensures one_at_most { result ≤ 1 }
+{
+    if 1 < operations { 1 } else { 0 }
+}
+
+// What caller says of the operations, as the batch of this number, whose rows are those from the first on.
+fn notice(caller: u32, batch: u64, first: u32, ops: &[Op], counts: Counts) -> Notice
+    requires some { 0 < counts.enqs }
+    requires fits { first + counts.enqs < 2 ^ 32 }
+    requires counts { counts ≡ counts_of ops.now }
+    ensures { result ≡ notice_of caller batch first ops.now }
+{
+    Notice {
+        old_head: Place { row: 0, count: 0 },
+        first,
+        last: first + counts.enqs - 1,
+        counts: BatchCounts {
+            enqs: counts.enqs,
+            deqs: counts.deqs,
+            excess: counts.excess,
+        },
+        number: BatchNumber { batch, caller },
+        order0: order_word(ops, 0),
+        order1: order_word(ops, 1),
+        order2: order_word(ops, 2),
+        order3: order_word(ops, 3),
+    }
+}
+
+/// How many rows and announcements a caller took, and how many groups it made.
+#[derive(Clone, Copy)]
+pub struct Stock {
+    taken: u32,
+    made: u32,
+    batch: u64,
+}
+
+impl Stock {
+    // The first step of a plain call.
+    fn plain(self, shape: &Shape, caller: u32, op: Op) -> Turn
+        requires known { caller < shape.now.callers }
+        requires row { self.taken + enqueue_count (op ∷ []) ≤ items_of shape.now }
+        ensures { (k : Caller) → k.taken ≡ self.taken → result ≡ first_turn (lane_of shape.now) caller k (op ∷ []) }
+    {
+        match op {
+            Op::Enq(value) => Turn::StoreValue(Item {
+                row: item_row(shape, caller, self.taken),
+                value,
+            }),
+            Op::Deq => Turn::DeqHead,
+        }
+    }
+
+    // What the announcement of a batch is to say.
+    fn draft(self, shape: &Shape, caller: u32, ops: &[Op], counts: Counts) -> Draft
+        requires known { caller < shape.now.callers }
+        requires rows { self.taken + counts.enqs ≤ items_of shape.now }
+        requires ann { self.made < shape.now.callers }
+        requires some { 0 < counts.enqs }
+        requires counts { counts ≡ counts_of ops.now }
+        ensures { (k : Caller) → k.taken ≡ self.taken → k.made ≡ self.made → length k.mine ≡ self.batch → result ≡ draft_of (lane_of shape.now) caller k ops.now }
+    {
+        let first = item_row(shape, caller, self.taken);
+        Draft {
+            ann: own_ann(shape, caller, self.made),
+            notice: notice(caller, self.batch, first, ops, counts),
+        }
+    }
+
+    // The first step of a command.
+    fn first_turn(
+        self,
+        shape: &Shape,
+        caller: u32,
+        ops: &[Op],
+        counts: Counts,
+        puts: &[u64],
+    ) -> Turn
+        requires known { caller < shape.now.callers }
+        requires command { IsCommand ops.now }
+        requires rows { self.taken + counts.enqs ≤ items_of shape.now }
+        requires anns { self.made + anns_taken ops.now ≤ shape.now.callers }
+        requires counts { counts ≡ counts_of ops.now }
+        requires puts { puts.now ≡ enqueued ops.now }
+        ensures { (k : Caller) → k.taken ≡ self.taken → k.made ≡ self.made → length k.mine ≡ self.batch → result ≡ first_turn (lane_of shape.now) caller k ops.now }
+    {
+        if ops.len() == 1 {
+            self.plain(shape, caller, ops[0])
+        } else {
+            Turn::BatchValue(self.draft(shape, caller, ops, counts), 0, puts[0])
+        }
+    }
 }
 
 impl Lists {
@@ -36,41 +162,52 @@ impl Lists {
         requires known { caller < self.now.shape.callers }
         ensures { IsTrue result ↔ PassesAllowance (lane_of self.now.shape) (callers_of self.now.calls.items caller) more }
     {
-        let made = self.calls[caller as usize].made;
+        let made = self.calls[caller as usize].operations;
         self.shape.allowance() - made < more as u64
     }
 
-    fn taken(&self, caller: u32) -> u32
+    fn stock(&self, caller: u32) -> Stock
         requires { caller < vec_len self.now.calls }
-        ensures { result ≡ (callers_of self.now.calls.items caller).taken }
+        ensures taken { result.taken ≡ (callers_of self.now.calls.items caller).taken }
+        ensures made { result.made ≡ (callers_of self.now.calls.items caller).made }
+        ensures batch { result.batch ≡ length (callers_of self.now.calls.items caller).mine }
     {
-        self.calls[caller as usize].taken
-    }
-
-    // Whether a row is left for the operation.
-    fn has_row(&self, caller: u32, op: Op) -> bool
-        requires { caller < vec_len self.now.calls }
-        ensures { result ≡ has_row (lane_of self.now.shape) (callers_of self.now.calls.items caller).taken op }
-    {
-        match op {
-            Op::Enq(_) => self.taken(caller) < items(&self.shape),
-            Op::Deq => true,
+        let call = &self.calls[caller as usize];
+        Stock {
+            taken: call.taken,
+            made: call.made,
+            batch: call.mine.len() as u64,
         }
     }
 
-    // Takes the memory that a command of the caller needs: for its group in the history, and among those that are done.
-    fn reserve(&mut self, caller: u32) -> Result<(), OutOfMemory>
+    // Whether rows and an announcement are left for so many enqueues and operations.
+    fn has_rows(&self, caller: u32, enqs: u32, operations: usize) -> bool
+        requires sound { IsSound self.now }
+        requires known { caller < self.now.shape.callers }
+        requires few { enqs < 2 ^ 16 }
+        ensures { (ops : List Op) → enqs ≡ enqueue_count ops → operations ≡ length ops
+            → result ≡ has_rows (lane_of self.now.shape) (callers_of self.now.calls.items caller) ops }
+    {
+        let stock = self.stock(caller);
+        let rows = stock.taken + enqs <= items(&self.shape);
+        let anns = stock.made + anns_taken(operations) <= self.shape.callers();
+        rows && anns
+    }
+
+    // Takes the memory that a command of the caller needs: for its group in the history, for the values that it reads, and
+    // for its end.
+    fn reserve(&mut self, caller: u32, more: usize) -> Result<(), OutOfMemory>
         requires sound { IsSound self.old }
         requires known { caller < self.old.shape.callers }
         ensures same { state_of self.new ≡ state_of self.old }
         ensures shape { self.new.shape ≡ self.old.shape }
         ensures sound { IsSound self.new }
         ensures history { OnOk result (vec_len self.new.history + vec_len self.new.calls ≤ vec_capacity self.new.history) }
-        ensures mine { OnOk result (IfSome (slice_get self.new.calls.items caller) (λ k. vec_len k.mine < vec_capacity k.mine)) }
+        ensures room { OnOk result (IfSome (slice_get self.new.calls.items caller) (λ k. (vec_len k.mine < vec_capacity k.mine) × (more ≤ vec_capacity k.values))) }
     {
         self.history.reserve(self.calls.len())?;
         let call = &mut self.calls[caller as usize];
-        call.reserve()
+        call.reserve(more)
     }
 
     // The command ends with Full at once.
@@ -90,73 +227,63 @@ impl Lists {
         call.refuse(now);
     }
 
-    // The command begins, with its operation and a copy of it.
-    fn begin(&mut self, caller: u32, op: Op, ops: Ops, copy: Ops)
+    // The command begins, with its operations, a copy of them and the values of its enqueues.
+    fn begin(&mut self, caller: u32, counts: Counts, ops: Ops, copy: Ops, puts: Vec<u64>)
         requires sound { IsSound self.old }
         requires known { caller < self.old.shape.callers }
         requires idle { (callers_of self.old.calls.items caller).turn ≡ Idle }
-        requires left { ¬ (PassesAllowance (lane_of self.old.shape) (callers_of self.old.calls.items caller) 1) }
-        requires row { has_row (lane_of self.old.shape) (callers_of self.old.calls.items caller).taken op ≡ true }
+        requires command { IsCommand ops }
+        requires most { length ops ≤ self.old.shape.batch }
+        requires left { ¬ (PassesAllowance (lane_of self.old.shape) (callers_of self.old.calls.items caller) (length ops)) }
+        requires rows { has_rows (lane_of self.old.shape) (callers_of self.old.calls.items caller) ops ≡ true }
         requires history { vec_len self.old.history + vec_len self.old.calls ≤ vec_capacity self.old.history }
-        requires mine { IfSome (slice_get self.old.calls.items caller) (λ k. vec_len k.mine < vec_capacity k.mine) }
-        requires ops { ops ≡ op ∷ [] }
-        requires copy { copy ≡ op ∷ [] }
+        requires room { IfSome (slice_get self.old.calls.items caller) (λ k. (vec_len k.mine < vec_capacity k.mine) × (length ops ≤ vec_capacity k.values)) }
+        requires counts { counts ≡ counts_of ops }
+        requires copy { copy ≡ ops }
+        requires puts { puts.items ≡ enqueued ops }
         ensures memory { (state_of self.new).memory ≡ (state_of self.old).memory }
         ensures history_stays { (state_of self.new).history ≡ (state_of self.old).history }
         ensures callers { callers_of self.new.calls.items ≡ put (callers_of self.old.calls.items) caller
-            (started (lane_of self.old.shape) (vec_len self.old.history) caller (callers_of self.old.calls.items caller) op) }
+            (started (lane_of self.old.shape) (vec_len self.old.history) caller (callers_of self.old.calls.items caller) ops) }
         ensures sound { IsSound self.new }
         ensures shape { self.new.shape ≡ self.old.shape }
     {
         let now = self.history.len();
-        let taken = self.taken(caller);
-        let (turn, taken) = first_step(&self.shape, caller, op, taken);
+        let stock = self.stock(caller);
+        let turn = stock.first_turn(&self.shape, caller, ops.as_slice(), counts, puts.as_slice());
+        let taken = stock.taken + counts.enqs;
+        let made = stock.made + anns_taken(ops.len());
         self.copies[caller as usize] = copy;
         let call = &mut self.calls[caller as usize];
-        call.begin(turn, ops, taken, now);
+        call.begin(turn, ops, puts, taken, made, now);
     }
 
-    /// Starts a command of one operation.
-    pub fn start(&mut self, caller: u32, op: Op) -> Result<Started, OutOfMemory>
+    /// Starts a command.
+    pub fn start(&mut self, caller: u32, ops: &[Op]) -> Result<Started, OutOfMemory>
         requires sound { IsSound self.old }
         requires known { caller < self.old.shape.callers }
         requires idle { (callers_of self.old.calls.items caller).turn ≡ Idle }
-        ensures spent { (result ≡ Ok Started.Spent) ↔ PassesAllowance (lane_of self.old.shape) (callers_of self.old.calls.items caller) 1 }
-        ensures running { (result ≡ Ok Started.Running) → state_of self.new ≡ start (lane_of self.old.shape) (state_of self.old) caller op }
+        requires command { IsCommand ops.now }
+        requires most { length ops.now ≤ self.old.shape.batch }
+        ensures spent { (result ≡ Ok Started.Spent) ↔ PassesAllowance (lane_of self.old.shape) (callers_of self.old.calls.items caller) (length ops.now) }
+        ensures running { (result ≡ Ok Started.Running) → state_of self.new ≡ start (lane_of self.old.shape) (state_of self.old) caller ops.now }
         ensures refusal { result ≢ Ok Started.Running → state_of self.new ≡ state_of self.old }
         ensures sound { IsSound self.new }
         ensures shape { self.new.shape ≡ self.old.shape }
     {
-        if self.is_spent(caller, 1) {
+        if self.is_spent(caller, ops.len()) {
             return Ok(Started::Spent);
         }
-        if !self.has_row(caller, op) {
+        let counts = count(ops);
+        if !self.has_rows(caller, counts.enqs, ops.len()) {
             self.refuse(caller);
             return Ok(Started::Running);
         }
-        let ops = single(self.alloc, op)?;
-        let copy = single(self.alloc, op)?;
-        self.reserve(caller)?;
-        self.begin(caller, op, ops, copy);
+        let own = copied(self.alloc, ops)?;
+        let copy = copied(self.alloc, ops)?;
+        let puts = puts_of(self.alloc, ops)?;
+        self.reserve(caller, ops.len())?;
+        self.begin(caller, counts, own, copy, puts);
         Ok(Started::Running)
-    }
-}
-
-// The first step of an operation, and how many rows its caller then has taken.
-fn first_step(shape: &Shape, caller: u32, op: Op, taken: u32) -> (Turn, u32)
-    requires known { caller < shape.now.callers }
-    requires row { has_row (lane_of shape.now) taken op ≡ true }
-    ensures turn { result.0 ≡ first_turn (lane_of shape.now) caller taken op }
-    ensures taken { result.1 ≡ taken + rows_taken op }
-{
-    match op {
-        Op::Enq(value) => (
-            Turn::StoreValue(Item {
-                row: item_row(shape, caller, taken),
-                value,
-            }),
-            taken + 1,
-        ),
-        Op::Deq => (Turn::DeqHead, taken),
     }
 }

@@ -10,12 +10,12 @@ use std::collections::VecDeque;
 use std::process::Abort;
 use std::test::Fail;
 
-/// Events, as a table has them: the start of an enqueue or of a dequeue, or so many steps of a caller.
+/// Events, as a table has them: the start of an enqueue, of a dequeue or of any operations, or so many steps of a caller.
 #[derive(Clone, Copy)]
-enum Play {
+enum Play<'a> {
     Enq(u32, u64),
     Deq(u32),
-    NoOperation(u32),
+    Start(u32, &'a [Op]),
     Steps(u32, u32),
 }
 
@@ -24,14 +24,13 @@ enum Play {
 #[derive(Clone, Copy)]
 struct Row<'a> {
     callers: u32,
-    plays: &'a [Play],
+    plays: &'a [Play<'a>],
     groups: &'a [(u32, u64, Op)],
     answers: &'a [Option<Answer>],
 }
 
-fn start(alloc: Global, caller: u32, op: Op) -> Result<Event, OutOfMemory> {
-    let mut ops = Ops::new(alloc);
-    ops.push(op)?;
+fn start(alloc: Global, caller: u32, ops: &[Op]) -> Result<Event, OutOfMemory> {
+    let ops = Ops::from(ops.to_vec(alloc)?);
     Ok(Event::Start { caller, ops })
 }
 
@@ -39,12 +38,9 @@ fn events_of(alloc: Global, plays: &[Play]) -> Result<Vec<Event>, OutOfMemory> {
     let mut events = Vec::new(alloc);
     for play in plays {
         match *play {
-            Play::Enq(caller, value) => events.push(start(alloc, caller, Op::Enq(value))?)?,
-            Play::Deq(caller) => events.push(start(alloc, caller, Op::Deq)?)?,
-            Play::NoOperation(caller) => events.push(Event::Start {
-                caller,
-                ops: Ops::new(alloc),
-            })?,
+            Play::Enq(caller, value) => events.push(start(alloc, caller, &[Op::Enq(value)])?)?,
+            Play::Deq(caller) => events.push(start(alloc, caller, &[Op::Deq])?)?,
+            Play::Start(caller, ops) => events.push(start(alloc, caller, ops)?)?,
             Play::Steps(caller, n) => {
                 for _ in 0..n {
                     events.push(Event::Step { caller })?;
@@ -160,7 +156,7 @@ fn schedules_by_hand_leave_what_they_must(rt: HostRuntime) -> Result<(), Fail> {
 
 #[test]
 fn first_event_that_cannot_happen_is_named(rt: HostRuntime) -> Result<(), Fail> {
-    let shape = Shape::new(1, 1, 1, 10, 0).ok_or("in limits")?;
+    let shape = Shape::new(1, 2, 1, 10, 0).ok_or("in limits")?;
     let at = |event, cause| Some(ScheduleRefused::At { event, cause });
     let cases = [
         ([].as_slice(), None),
@@ -172,9 +168,21 @@ fn first_event_that_cannot_happen_is_named(rt: HostRuntime) -> Result<(), Fail> 
             [Play::Deq(0), Play::Deq(0)].as_slice(),
             at(1, EventCause::BusyCaller),
         ),
-        ([Play::Deq(1)].as_slice(), at(0, EventCause::BadCaller)),
         (
-            [Play::Deq(0), Play::NoOperation(0)].as_slice(),
+            [Play::Start(1, &[])].as_slice(),
+            at(0, EventCause::BadCaller),
+        ),
+        ([Play::Start(0, &[Op::Enq(1), Op::Deq])].as_slice(), None),
+        (
+            [Play::Start(0, &[Op::Deq, Op::Deq])].as_slice(),
+            at(0, EventCause::BadBatch),
+        ),
+        (
+            [Play::Start(0, &[Op::Enq(1), Op::Enq(2), Op::Deq])].as_slice(),
+            at(0, EventCause::BadBatch),
+        ),
+        (
+            [Play::Deq(0), Play::Start(0, &[])].as_slice(),
             at(1, EventCause::BadBatch),
         ),
         (
@@ -370,6 +378,327 @@ fn all_short_schedules_answer_as_a_queue(rt: HostRuntime) -> Result<(), Fail> {
         assert!(rt; machine.callers() == 2);
         let notes = notes_of(rt.alloc(), &mut machine, choices)?;
         assert_noted(&rt, rt.alloc(), &machine, &notes)?;
+    }
+    Ok(())
+}
+
+/// What a table tells a caller to do.
+#[derive(Clone, Copy)]
+enum Act<'a> {
+    Start(u32, &'a [Op]),
+    /// Steps, until the caller's next one is of this kind.
+    Until(u32, StepKind),
+    Finish(u32),
+}
+
+/// Acts, and what they leave: the groups, the answers of a caller's last command, and the values that are queued, which the
+/// same caller dequeues.
+#[derive(Clone, Copy)]
+struct Batches<'a> {
+    callers: u32,
+    acts: &'a [Act<'a>],
+    groups: &'a [(u32, u64, &'a [Op])],
+    caller: u32,
+    answers: &'a [Answer],
+    queue: &'a [u64],
+}
+
+/// The event happens, where it can.
+fn make(machine: &mut Machine, event: &Event) -> Result<(), OutOfMemory> {
+    if machine.cause(event).is_none() {
+        machine.happen(event)?;
+    }
+    Ok(())
+}
+
+/// Whether the caller's next step is of this kind, or, where none is named, whether the caller is idle.
+fn is_at(machine: &Machine, caller: u32, kind: Option<StepKind>) -> bool {
+    caller < machine.callers() && machine.next_kind(caller) == kind
+}
+
+/// The caller makes its steps, until the next one is of this kind, or until it is idle.
+fn go_until(machine: &mut Machine, caller: u32, kind: Option<StepKind>) -> Result<(), OutOfMemory> {
+    for _ in 0..2_000 {
+        if !is_at(machine, caller, kind) {
+            make(machine, &Event::Step { caller })?;
+        }
+    }
+    Ok(())
+}
+
+fn do_it(alloc: Global, machine: &mut Machine, act: Act) -> Result<(), OutOfMemory> {
+    match act {
+        Act::Start(caller, ops) => make(machine, &start(alloc, caller, ops)?),
+        Act::Until(caller, kind) => go_until(machine, caller, Some(kind)),
+        Act::Finish(caller) => go_until(machine, caller, None),
+    }
+}
+
+/// The answers of a caller's last command.
+fn answers_of(alloc: Global, machine: &Machine, caller: u32) -> Result<Vec<Answer>, Fail> {
+    if caller < machine.callers() {
+        return Ok(machine.answers(caller).as_slice().to_vec(alloc)?);
+    }
+    Ok(Vec::new(alloc))
+}
+
+/// The values that a caller gets by dequeues.
+fn drained(alloc: Global, machine: &mut Machine, caller: u32) -> Result<Vec<u64>, Fail> {
+    let mut values = Vec::new(alloc);
+    for _ in 0..8 {
+        make(machine, &start(alloc, caller, &[Op::Deq])?)?;
+        go_until(machine, caller, None)?;
+        if let Some(Answer::Got(value)) = answers_of(alloc, machine, caller)?.as_slice().first() {
+            values.push(*value)?;
+        }
+    }
+    Ok(values)
+}
+
+fn assert_batches(rt: &impl Abort, alloc: Global, row: &Batches) -> Result<(), Fail> {
+    let shape = Shape::new(row.callers, 5, 8, 100, 0).ok_or("in limits")?;
+    let mut machine = Machine::new(alloc, &shape)?;
+    for next in row.acts {
+        do_it(alloc, &mut machine, *next)?;
+    }
+    assert_eq!(rt; machine.history().len(), row.groups.len());
+    for (group, wanted) in machine.history().iter().zip(row.groups) {
+        assert_eq!(rt; (group.caller, group.batch), (wanted.0, wanted.1));
+        assert_eq!(rt; group.ops.as_slice(), wanted.2);
+    }
+    let answers = answers_of(alloc, &machine, row.caller)?;
+    assert_eq!(rt; answers.as_slice(), row.answers);
+    let queue = drained(alloc, &mut machine, row.caller)?;
+    assert_eq!(rt; queue.as_slice(), row.queue);
+    Ok(())
+}
+
+#[test]
+fn batches_by_hand_answer_and_leave_what_they_must(rt: HostRuntime) -> Result<(), Fail> {
+    let rows = [
+        // Two dequeues succeed on one value, the second on a value of the batch itself.
+        Batches {
+            callers: 1,
+            acts: &[
+                Act::Start(0, &[Op::Enq(7)]),
+                Act::Finish(0),
+                Act::Start(0, &[Op::Deq, Op::Enq(8), Op::Deq, Op::Deq, Op::Enq(9)]),
+                Act::Finish(0),
+            ],
+            groups: &[
+                (0, 0, &[Op::Enq(7)]),
+                (0, 1, &[Op::Deq, Op::Enq(8), Op::Deq, Op::Deq, Op::Enq(9)]),
+            ],
+            caller: 0,
+            answers: &[
+                Answer::Got(7),
+                Answer::Done,
+                Answer::Got(8),
+                Answer::Empty,
+                Answer::Done,
+            ],
+            queue: &[9],
+        },
+        // The same batch on an empty queue.
+        Batches {
+            callers: 1,
+            acts: &[
+                Act::Start(0, &[Op::Deq, Op::Enq(8), Op::Deq, Op::Deq, Op::Enq(9)]),
+                Act::Finish(0),
+            ],
+            groups: &[(0, 0, &[Op::Deq, Op::Enq(8), Op::Deq, Op::Deq, Op::Enq(9)])],
+            caller: 0,
+            answers: &[
+                Answer::Empty,
+                Answer::Done,
+                Answer::Got(8),
+                Answer::Empty,
+                Answer::Done,
+            ],
+            queue: &[9],
+        },
+        // A longer queue than the batch: the new dummy lies before the old tail.
+        Batches {
+            callers: 2,
+            acts: &[
+                Act::Start(
+                    0,
+                    &[Op::Enq(1), Op::Enq(2), Op::Enq(3), Op::Enq(4), Op::Enq(5)],
+                ),
+                Act::Finish(0),
+                Act::Start(0, &[Op::Enq(6), Op::Deq]),
+                Act::Finish(0),
+            ],
+            groups: &[
+                (
+                    0,
+                    0,
+                    &[Op::Enq(1), Op::Enq(2), Op::Enq(3), Op::Enq(4), Op::Enq(5)],
+                ),
+                (0, 1, &[Op::Enq(6), Op::Deq]),
+            ],
+            caller: 0,
+            answers: &[Answer::Done, Answer::Got(1)],
+            queue: &[2, 3, 4, 5, 6],
+        },
+        // A caller has as many announcements as there are callers. A second batch of a lone caller ends with Full.
+        Batches {
+            callers: 1,
+            acts: &[
+                Act::Start(0, &[Op::Enq(1), Op::Enq(2)]),
+                Act::Finish(0),
+                Act::Start(0, &[Op::Enq(6), Op::Deq]),
+                Act::Finish(0),
+            ],
+            groups: &[(0, 0, &[Op::Enq(1), Op::Enq(2)])],
+            caller: 0,
+            answers: &[],
+            queue: &[1, 2],
+        },
+        // No dequeue: the head gets its old word back.
+        Batches {
+            callers: 1,
+            acts: &[Act::Start(0, &[Op::Enq(1), Op::Enq(2)]), Act::Finish(0)],
+            groups: &[(0, 0, &[Op::Enq(1), Op::Enq(2)])],
+            caller: 0,
+            answers: &[Answer::Done, Answer::Done],
+            queue: &[1, 2],
+        },
+        // A dequeue finishes the batch of a caller that stopped before its link.
+        Batches {
+            callers: 2,
+            acts: &[
+                Act::Start(0, &[Op::Enq(5), Op::Enq(6), Op::Deq]),
+                Act::Until(0, StepKind::LinkChain),
+                Act::Start(1, &[Op::Deq]),
+                Act::Finish(1),
+            ],
+            groups: &[
+                (0, 0, &[Op::Enq(5), Op::Enq(6), Op::Deq]),
+                (1, 0, &[Op::Deq]),
+            ],
+            caller: 1,
+            answers: &[Answer::Got(6)],
+            queue: &[],
+        },
+        // The helper's own exchange comes late and changes nothing.
+        Batches {
+            callers: 3,
+            acts: &[
+                Act::Start(0, &[Op::Enq(5), Op::Enq(6), Op::Deq]),
+                Act::Until(0, StepKind::LinkChain),
+                Act::Start(1, &[Op::Deq]),
+                Act::Until(1, StepKind::LinkChain),
+                Act::Finish(0),
+                Act::Start(0, &[Op::Enq(7), Op::Enq(8)]),
+                Act::Finish(0),
+                Act::Start(0, &[Op::Enq(1), Op::Deq, Op::Deq]),
+                Act::Finish(0),
+                Act::Finish(1),
+            ],
+            groups: &[
+                (0, 0, &[Op::Enq(5), Op::Enq(6), Op::Deq]),
+                (0, 1, &[Op::Enq(7), Op::Enq(8)]),
+                (0, 2, &[Op::Enq(1), Op::Deq, Op::Deq]),
+                (1, 0, &[Op::Deq]),
+            ],
+            caller: 1,
+            answers: &[Answer::Got(8)],
+            queue: &[1],
+        },
+        // The owner stops right after its install, and another caller's enqueue does the rest. The owner finds its answers.
+        Batches {
+            callers: 2,
+            acts: &[
+                Act::Start(0, &[Op::Enq(5), Op::Enq(6), Op::Deq]),
+                Act::Until(0, StepKind::Install),
+                Act::Until(0, StepKind::LoadAnn),
+                Act::Start(1, &[Op::Enq(2), Op::Deq]),
+                Act::Finish(1),
+                Act::Finish(0),
+            ],
+            groups: &[
+                (0, 0, &[Op::Enq(5), Op::Enq(6), Op::Deq]),
+                (1, 0, &[Op::Enq(2), Op::Deq]),
+            ],
+            caller: 0,
+            answers: &[Answer::Done, Answer::Done, Answer::Got(5)],
+            queue: &[2],
+        },
+    ];
+    for row in &rows {
+        assert_batches(&rt, rt.alloc(), row)?;
+    }
+    Ok(())
+}
+
+#[test]
+fn largest_batch_on_a_lane_at_the_limits(rt: HostRuntime) -> Result<(), Fail> {
+    let first = (1 << 44) - 1 - 17 * (1 << 38);
+    let shape = Shape::new(17, 256, 256, 1 << 38, first).ok_or("in limits")?;
+    let mut machine = Machine::new(rt.alloc(), &shape)?;
+    let mut ops = Vec::new(rt.alloc());
+    for value in 0..128 {
+        ops.push(Op::Enq(value))?;
+    }
+    for _ in 0..128 {
+        ops.push(Op::Deq)?;
+    }
+    do_it(rt.alloc(), &mut machine, Act::Start(16, ops.as_slice()))?;
+    do_it(rt.alloc(), &mut machine, Act::Finish(16))?;
+    let answers = answers_of(rt.alloc(), &machine, 16)?;
+    assert_eq!(rt; answers.len(), 256);
+    assert_eq!(rt; answers.get(127).copied(), Some(Answer::Done));
+    assert_eq!(rt; answers.get(128).copied(), Some(Answer::Got(0)));
+    assert_eq!(rt; answers.get(255).copied(), Some(Answer::Got(127)));
+    Ok(())
+}
+
+/// The caller makes so many steps, or fewer where its command ends.
+fn go_steps(machine: &mut Machine, caller: u32, steps: u32) -> Result<(), OutOfMemory> {
+    for _ in 0..steps {
+        make(machine, &Event::Step { caller })?;
+    }
+    Ok(())
+}
+
+/// How many groups of the history are of this caller and have its operations.
+fn times(machine: &Machine, caller: u32, ops: &[Op]) -> u32 {
+    let mut found = 0u32;
+    for group in machine.history() {
+        if group.caller == caller && group.ops.as_slice() == ops {
+            found = found.saturating_add(1);
+        }
+    }
+    found
+}
+
+#[test]
+fn helpers_that_stop_anywhere_leave_one_group(rt: HostRuntime) -> Result<(), Fail> {
+    let batch = [Op::Enq(5), Op::Enq(6), Op::Deq].as_slice();
+    let right = [Answer::Done, Answer::Done, Answer::Got(5)].as_slice();
+    for stop in 0..24 {
+        let shape = Shape::new(5, 5, 8, 100, 0).ok_or("in limits")?;
+        let mut machine = Machine::new(rt.alloc(), &shape)?;
+        // The owner stops after its install, and three helpers stop after 0 to 23 steps. The fourth goes on to the end.
+        do_it(rt.alloc(), &mut machine, Act::Start(0, batch))?;
+        do_it(rt.alloc(), &mut machine, Act::Until(0, StepKind::Install))?;
+        go_steps(&mut machine, 0, 1)?;
+        for caller in 1..4 {
+            do_it(rt.alloc(), &mut machine, Act::Start(caller, &[Op::Deq]))?;
+            go_steps(&mut machine, caller, stop)?;
+        }
+        do_it(rt.alloc(), &mut machine, Act::Start(4, &[Op::Deq]))?;
+        do_it(rt.alloc(), &mut machine, Act::Finish(4))?;
+        assert!(rt; is_at(&machine, 4, None));
+        assert_eq!(rt; times(&machine, 0, batch), 1);
+        for caller in 0..4 {
+            do_it(rt.alloc(), &mut machine, Act::Finish(caller))?;
+        }
+        assert_eq!(rt; times(&machine, 0, batch), 1);
+        assert_eq!(rt; machine.history().len(), 5);
+        let answers = answers_of(rt.alloc(), &machine, 0)?;
+        assert_eq!(rt; answers.as_slice(), right);
     }
     Ok(())
 }

@@ -1,13 +1,13 @@
-// The words of a lane that steps touch: HEAD, TAIL, and the LINK and the VALUE of each row.
-ghost use Rattle.std.specs.Prelude.{◌≡◌, IfOk, vec_len};
+// The words of a lane that steps touch: HEAD, TAIL, the LINK and the VALUE of each row, and the words of each announcement.
+ghost use Rattle.std.specs.Prelude.{◌≡◌, ◌<◌, IfOk, vec_len};
 ghost use Rattle.core_model.specs.Ranges.{IsWord};
-ghost use Rattle.core_model.specs.State.{read, write};
-ghost use Rattle.step_core.specs.Words.{memory_of, opening_words};
+ghost use Rattle.core_model.specs.State.{read, read_field, write, write_field};
+ghost use Rattle.step_core.specs.Words.{memory_of, opening_words, sizes_of, sizes_for};
 
 use bq_model::OutOfMemory;
-use core_model::{head_in, link_in, tail_in, value_in};
+use core_model::{Notice, head_in, link_in, old_tail_in, tail_in, value_in};
 use std::alloc::Global;
-use word_rows::{Content, HeadWord, LinkWord, Location, Place};
+use word_rows::{AnnField, Content, HeadWord, LinkWord, Location, Place};
 
 /// The words, as what they hold.
 #[derive(Debug, Drop)]
@@ -16,14 +16,17 @@ pub struct Words {
     pub tail: Place,
     pub links: Vec<LinkWord>,
     pub values: Vec<u64>,
+    /// Of each announcement OldTail, none while it isn't known.
+    pub old_tails: Vec<Option<Place>>,
+    /// Of each announcement what its other words say.
+    pub notices: Vec<Notice>,
 }
 
 impl Words {
-    /// The words of an empty lane with so many rows, whose counts begin at `first`.
-    pub fn new(alloc: Global, rows: usize, first: u64) -> Result<Words, OutOfMemory>
+    /// The words of an empty lane with so many rows and announcements, whose counts begin at `first`.
+    pub fn new(alloc: Global, rows: usize, anns: usize, first: u64) -> Result<Words, OutOfMemory>
         ensures opening { IfOk result (λ words. memory_of words ≡ opening_words first) }
-        ensures links { IfOk result (λ words. vec_len words.links ≡ rows) }
-        ensures values { IfOk result (λ words. vec_len words.values ≡ rows) }
+        ensures sizes { IfOk result (λ words. sizes_of words ≡ sizes_for rows anns) }
     {
         let dummy = Place {
             row: 0,
@@ -34,13 +37,27 @@ impl Words {
             tail: dummy,
             links: vec![in alloc; LinkWord::Nil; rows]?,
             values: vec![in alloc; 0; rows]?,
+            old_tails: vec![in alloc; None; anns]?,
+            notices: vec![in alloc; Notice::blank(); anns]?,
         })
+    }
+
+    // What the word of an announcement holds.
+    fn read_field(&self, ann: u32, field: AnnField) -> Content
+        requires old_tails { ann < vec_len self.now.old_tails }
+        requires notices { ann < vec_len self.now.notices }
+        ensures { result ≡ read_field (memory_of self.now) ann field }
+    {
+        match field {
+            AnnField::OldTail => Content::OfOldTail(self.old_tails[ann as usize]),
+            _ => self.notices[ann as usize].field(field),
+        }
     }
 
     /// What the word holds.
     pub fn read(&self, word: Location) -> Content
-        requires links { IsWord (vec_len self.now.links) word }
-        requires values { IsWord (vec_len self.now.values) word }
+        requires links { IsWord (vec_len self.now.links) (vec_len self.now.old_tails) word }
+        requires values { IsWord (vec_len self.now.values) (vec_len self.now.notices) word }
         ensures { result ≡ read (memory_of self.now) word }
     {
         match word {
@@ -48,23 +65,40 @@ impl Words {
             Location::Tail => Content::OfTail(self.tail),
             Location::Link { row } => Content::OfLink(self.links[row as usize]),
             Location::Value { row } => Content::OfValue(self.values[row as usize]),
+            Location::AnnWord { ann, field } => self.read_field(ann, field),
             _ => Content::OfValue(0),
+        }
+    }
+
+    // Stores into the word of an announcement.
+    fn write_field(&mut self, ann: u32, field: AnnField, content: Content)
+        requires old_tails { ann < vec_len self.old.old_tails }
+        requires notices { ann < vec_len self.old.notices }
+        ensures memory { memory_of self.new ≡ write_field (memory_of self.old) ann field content }
+        ensures sizes_stay { sizes_of self.new ≡ sizes_of self.old }
+    {
+        match field {
+            AnnField::OldTail => self.old_tails[ann as usize] = old_tail_in(content),
+            _ => {
+                let said = self.notices[ann as usize];
+                self.notices[ann as usize] = said.with_field(field, content);
+            }
         }
     }
 
     /// Stores into the word.
     pub fn write(&mut self, word: Location, content: Content)
-        requires links { IsWord (vec_len self.old.links) word }
-        requires values { IsWord (vec_len self.old.values) word }
+        requires links { IsWord (vec_len self.old.links) (vec_len self.old.old_tails) word }
+        requires values { IsWord (vec_len self.old.values) (vec_len self.old.notices) word }
         ensures memory { memory_of self.new ≡ write (memory_of self.old) word content }
-        ensures links_stay { vec_len self.new.links ≡ vec_len self.old.links }
-        ensures values_stay { vec_len self.new.values ≡ vec_len self.old.values }
+        ensures sizes_stay { sizes_of self.new ≡ sizes_of self.old }
     {
         match word {
             Location::Head => self.head = head_in(content),
             Location::Tail => self.tail = tail_in(content),
             Location::Link { row } => self.links[row as usize] = link_in(content),
             Location::Value { row } => self.values[row as usize] = value_in(content),
+            Location::AnnWord { ann, field } => self.write_field(ann, field, content),
             _ => {}
         }
     }

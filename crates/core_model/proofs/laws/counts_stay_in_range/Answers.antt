@@ -1,3 +1,4 @@
+use Rattle.core_model.specs.Step.{target}
 use Rattle.core_model.specs.Lane.{lane_of}
 use Rattle.core_model.proofs.InRange.{is_word, counts_fit, shape_fits}
 use Rattle.core_model.proofs.Finds.{names_rows}
@@ -17,4 +18,4 @@ pub returns-clause-head : goal.returns-clause-head
 returns-clause-head c = λ shape s p L is. head_fits (lane_of shape) s L (shape_fits shape) p is
 
 pub returns-clause-found : goal.returns-clause-found
-returns-clause-found c = λ shape s who L. names_rows (lane_of shape) s L (shape_fits shape) who
+returns-clause-found c = λ shape s who L. names_rows (lane_of shape) s L (shape_fits shape) (target (s.callers who).turn)

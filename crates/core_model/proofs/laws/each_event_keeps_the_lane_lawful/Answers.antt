@@ -9,4 +9,4 @@ pub returns-clause-step : goal.returns-clause-step
 returns-clause-step c = λ z s who L. keeps_next z s L who
 
 pub returns-clause-start : goal.returns-clause-start
-returns-clause-start c = λ z s who op L idle known left. keeps_start z s L who op idle known left
+returns-clause-start c = λ z s who ops L is idle known left. keeps_start z s L who ops is idle known left

@@ -8,4 +8,4 @@ use Rattle.step_core.proofs.schedule.run_schedule.Given as goal
 -- the events from here on are still to happen, on the machine as it is
 abbrev pub invariant-loop-event : goal.invariant-loop-event
 invariant-loop-event l = (l.machine.shape ≡ l.shape)
-    × (schedule (lane_of l.shape) (opening (lane_of l.shape)) 0 l.events ≡ schedule (lane_of l.shape) (state_at l.machine) l.event (drop l.event l.events))
+    × (schedule l.shape (opening (lane_of l.shape)) 0 l.events ≡ schedule l.shape (state_at l.machine) l.event (drop l.event l.events))

@@ -1,8 +1,10 @@
-use Rattle.std.proofs.Common.{rules, sym, ap, ◌∙◌}
+use Rattle.std.proofs.Common.{rules, ℕ, sym, ap, ◌∙◌, subst}
 use Rattle.core_model.specs.Functions.{put}
 use Rattle.core_model.specs.Step.{after}
+use Rattle.std.proofs.lemmas.List.Elements.{All-set}
+use Rattle.step_core.specs.Calls.{IsReady}
 use Rattle.step_core.specs.Lists.{callers_of}
-use Rattle.step_core.proofs.Callers.{caller_is, callers_set, waiting_set}
+use Rattle.step_core.proofs.Callers.{caller_is, callers_set, due_set}
 use Rattle.step_core.proofs.lists.Lists.go.Goals as goal
 
 pub returns-clause-callers : goal.returns-clause-callers
@@ -10,5 +12,9 @@ returns-clause-callers c = let ks = c.args.self.now.calls.items in callers_set k
     ∙ ap (put (callers_of ks) c.args.caller) (c.go.ensures.goes ∙ (let now = c.len-now.ensures in let before = sym (caller_is ks c.args.caller c.index_mut-call.result.now (search rules) c.index_mut-call.ensures.value) in
     λ i. after (now i) c.args.caller (before i) (before i).turn c.args.found))
 
-pub returns-clause-waiting : goal.returns-clause-waiting
-returns-clause-waiting c = waiting_set c.args.self.now.calls.items c.args.caller c.index_mut-call.result.now c.go.new.self (search rules) c.index_mut-call.ensures.value
+pub returns-clause-due : goal.returns-clause-due
+returns-clause-due c = due_set c.args.self.now.calls.items c.args.caller c.go.new.self (search rules)
+
+pub returns-clause-ready : goal.returns-clause-ready
+returns-clause-ready c = let before = c.index_mut-call.result.now in let R : IsReady c.args.self.now.shape.batch before = subst (IsReady c.args.self.now.shape.batch) (sym c.index_mut-call.ensures.value) (c.requires.ready c.args.caller before (search rules)) in
+    All-set (IsReady c.args.self.now.shape.batch) c.args.self.now.calls.items c.args.caller c.go.new.self (subst (λ (n : ℕ). IsReady n c.go.new.self) R.answers c.go.ensures.ready) c.requires.ready

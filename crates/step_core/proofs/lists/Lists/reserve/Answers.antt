@@ -1,10 +1,10 @@
-use Rattle.std.proofs.Common.{rules, ◌<◌, sym, ap, subst, refl, Option, IfSome, vec_len, vec_capacity}
+use Rattle.std.proofs.Common.{rules, ◌<◌, ◌≤◌, sym, ap, subst, refl, Option, IfSome, Result, Ok, Err, OnOk, vec_len, vec_capacity}
 use Rattle.std.proofs.lemmas.List.Elements.{All-set}
-use Rattle.core_model.specs.State.{Caller}
 use Rattle.step_core.specs.declared.call.Call.{Call}
 use Rattle.step_core.specs.Calls.{IsReady}
+use Rattle.step_core.specs.Due.{due}
 use Rattle.step_core.specs.Words.{memory_of}
-use Rattle.step_core.proofs.Callers.{callers_kept, waiting_kept, get_set}
+use Rattle.step_core.proofs.Callers.{callers_kept, due_kept, get_set}
 use Rattle.step_core.proofs.Sound.{again_sound, on_ok}
 use Rattle.step_core.proofs.lists.Lists.reserve.Goals as goal
 
@@ -13,10 +13,17 @@ returns-clause-same c = let history = c.in_ok-reserve.ensures.items in let calle
     λ i. record { memory = memory_of c.args.self.now.words; history = history i; callers = callers i }
 
 pub returns-clause-sound : goal.returns-clause-sound
-returns-clause-sound c = again_sound c.args.self.now _ c.requires.sound (returns-clause-same c) refl refl refl (search rules) refl
-    (All-set IsReady c.args.self.now.calls.items c.args.caller c.reserve-2.new.self c.reserve-2.ensures.ready c.requires.sound.ready)
-    c.in_ok-reserve.ensures.len c.in_ok-reserve.ensures.capacity
-    (waiting_kept c.args.self.now.calls.items c.args.caller c.index_mut-call.result.now c.reserve-2.new.self (search rules) c.index_mut-call.ensures.value (ap (λ (k : Caller). k.turn) c.reserve-2.ensures.same))
+returns-clause-sound c = let before = c.index_mut-call.result.now in let batch = c.args.self.now.shape.batch in let S = c.requires.sound in
+    let R : IsReady batch before = subst (IsReady batch) (sym c.index_mut-call.ensures.value) (S.ready c.args.caller before (search rules)) in
+    again_sound c.args.self.now _ S (returns-clause-same c) refl refl (search rules) refl
+    (All-set (IsReady batch) c.args.self.now.calls.items c.args.caller c.reserve-2.new.self (c.reserve-2.ensures.ready batch R) S.ready)
+    c.in_ok-reserve.ensures.capacity
+    (due_kept c.args.self.now.calls.items c.args.caller before c.reserve-2.new.self (search rules) c.index_mut-call.ensures.value (ap due c.reserve-2.ensures.same))
 
-pub returns-clause-mine : goal.returns-clause-mine
-returns-clause-mine c = on_ok c.reserve-2.result (λ room. subst (λ (o : Option Call). IfSome o (λ (k : Call). vec_len k.mine < vec_capacity k.mine)) (sym (get_set c.args.self.now.calls.items c.args.caller c.reserve-2.new.self (search rules))) room) c.reserve-2.ensures.room
+both : {A E : Type 0} → (P Q : Type 0) (r : Result A E) → OnOk r P → OnOk r Q → OnOk r (P × Q)
+both P Q (Ok x) p q = (p, q)
+both P Q (Err e) p q = tt
+
+pub returns-clause-room : goal.returns-clause-room
+returns-clause-room c = let more = c.args.more in on_ok c.reserve-2.result (λ room. subst (λ (o : Option Call). IfSome o (λ (k : Call). (vec_len k.mine < vec_capacity k.mine) × (more ≤ vec_capacity k.values))) (sym (get_set c.args.self.now.calls.items c.args.caller c.reserve-2.new.self (search rules))) room)
+    (both _ _ c.reserve-2.result c.reserve-2.ensures.room c.reserve-2.ensures.values)

@@ -1,9 +1,12 @@
-use Rattle.std.proofs.Common.{rules, ◌≡◌, ◌<◌, ◌+◌, ℕ, true, false, sym, ap, subst, ◌∙◌, length}
+use Rattle.std.proofs.Common.{rules, ◌≡◌, ◌<◌, ◌+◌, ℕ, true, false, sym, ap, subst, ◌∙◌, length, refl, vec_len, List}
+use Rattle.bq_model.specs.declared.op.Op.{Op}
 use Rattle.bq_model.specs.declared.shape.Shape.{Shape}
 use Rattle.bq_model.specs.History.{operations}
+use Rattle.excess_count.specs.declared.counts.Counts.{Counts}
+use Rattle.core_model.specs.Functions.{put}
 use Rattle.core_model.specs.Lane.{lane_of}
 use Rattle.core_model.specs.State.{State}
-use Rattle.core_model.specs.Start.{has_row}
+use Rattle.core_model.specs.Start.{has_rows, started}
 use Rattle.step_core.specs.Lists.{callers_of, state_of}
 use Rattle.step_core.proofs.Callers.{begun_is}
 use Rattle.step_core.proofs.lists.Lists.start.Goals as goal
@@ -13,17 +16,20 @@ pub begin-requires-clause-idle : goal.begin-requires-clause-idle
 begin-requires-clause-idle c = ap (λ (s : State). (s.callers c.args.caller).turn) c.reserve.ensures.same ∙ c.requires.idle
 
 pub begin-requires-clause-left : goal.begin-requires-clause-left
-begin-requires-clause-left c = λ passes. let same = c.reserve.ensures.same in let shape = c.reserve.ensures.shape in
-    let was = subst (λ (n : ℕ). n < length (operations ((state_of c.args.self.now).callers c.args.caller).mine) + 1) (ap (λ (z : Shape). z.allowance) shape)
-    (subst (λ (s : State). c.reserve.new.self.shape.allowance < length (operations (s.callers c.args.caller).mine) + 1) same passes) in differ (sym (c.is_spent.ensures.1 was) ∙ c.if-is_spent.false) where
+begin-requires-clause-left c = λ passes. let same = c.reserve.ensures.same in let len = ap length c.in_ok-own.ensures in
+    let was = subst (λ (n : ℕ). n < length (operations ((state_of c.args.self.now).callers c.args.caller).mine) + length c.args.ops.now) (ap (λ (z : Shape). z.allowance) c.reserve.ensures.shape)
+    (subst (λ (n : ℕ). c.reserve.new.self.shape.allowance < length (operations ((state_of c.args.self.now).callers c.args.caller).mine) + n) len
+    (subst (λ (s : State). c.reserve.new.self.shape.allowance < length (operations (s.callers c.args.caller).mine) + length c.in_ok-own.own) same passes)) in differ (sym (c.is_spent.ensures.1 was) ∙ c.if-is_spent.false) where
       differ : true ≡ false → ⊥
       differ e = cc e
 
-row : (c : goal.After-begin-arg-1) → has_row (lane_of c.args.self.now.shape) (callers_of c.args.self.now.calls.items c.args.caller).taken c.args.op ≡ true
-row c = search rules
+left_over : (c : goal.After-begin-arg-1) → has_rows (lane_of c.args.self.now.shape) (callers_of c.args.self.now.calls.items c.args.caller) c.args.ops.now ≡ true
+left_over c = sym (c.has_rows.ensures c.args.ops.now (ap (λ (x : Counts). x.enqs) c.count-counts.ensures.counts_of_the_batch) refl) ∙ (search rules)
 
-pub begin-requires-clause-row : goal.begin-requires-clause-row
-begin-requires-clause-row c = (λ i. has_row (lane_of (c.reserve.ensures.shape i)) ((c.reserve.ensures.same i).callers c.args.caller).taken c.args.op) ∙ (search rules)
+pub begin-requires-clause-rows : goal.begin-requires-clause-rows
+begin-requires-clause-rows c = (λ i. has_rows (lane_of (c.reserve.ensures.shape i)) ((c.reserve.ensures.same i).callers c.args.caller) (c.in_ok-own.ensures i)) ∙ left_over c
 
 pub returns-clause-running : goal.returns-clause-running
-returns-clause-running c = λ _. begun_is c.args.self.now c.reserve.new.self c.begin.new.self c.args.caller _ c.args.op c.reserve.ensures.same c.reserve.ensures.shape (search rules) (search rules) c.begin.ensures.memory c.begin.ensures.history_stays c.begin.ensures.callers
+returns-clause-running c = λ _. let rows = sym (c.has_rows.ensures c.args.ops.now (ap (λ (x : Counts). x.enqs) c.count-counts.ensures.counts_of_the_batch) refl) ∙ (search rules) in
+    begun_is c.args.self.now c.reserve.new.self c.begin.new.self c.args.caller _ c.args.ops.now c.reserve.ensures.same c.reserve.ensures.shape (search rules) rows c.begin.ensures.memory c.begin.ensures.history_stays
+    (c.begin.ensures.callers ∙ ap (λ (ops : List Op). put (callers_of c.reserve.new.self.calls.items) c.args.caller (started (lane_of c.reserve.new.self.shape) (vec_len c.reserve.new.self.history) c.args.caller (callers_of c.reserve.new.self.calls.items c.args.caller) ops)) c.in_ok-own.ensures)

@@ -1,24 +1,21 @@
-use Rattle.std.proofs.Common.{◌≡◌, ◌+◌, ◌<◌, ◌↔◌, sym, ap, subst, ◌∙◌}
-use Rattle.bq_model.specs.History.{operations}
+use Rattle.std.proofs.Common.{◌≡◌, ◌↔◌, sym, ap, subst, ◌∙◌}
 use Rattle.bq_model.specs.Own.{mine}
-use Rattle.excess_count.specs.Excess.{enqueue_count}
-use Rattle.word_rows.specs.Sizes.{items_of}
 use Rattle.core_model.specs.declared.turn.Turn.TheVariants.{Idle}
 use Rattle.core_model.specs.Lawful.{Lawful}
 use Rattle.core_model.specs.Lane.{lane_of}
+use Rattle.core_model.specs.Start.{LacksRows, start}
 use Rattle.core_model.specs.State.{State}
-use Rattle.step_core.specs.Lists.{state_of}
-use Rattle.step_core.specs.Machine.{View, state_at, start_of}
-use Rattle.step_core.proofs.Singles.{one_start, one_full}
+use Rattle.step_core.specs.Machine.{View, state_at}
+use Rattle.step_core.proofs.Begins.{start_full}
 use Rattle.step_core.proofs.machine.Machine.start.Goals as goal
 
 pub returns-clause-running : goal.returns-clause-running
-returns-clause-running c = λ is. c.start.ensures.running is ∙ (one_start (lane_of c.self.inside.lists.shape) (state_of c.self.inside.lists) c.args.caller c.args.ops.now _ c.requires.one ∙ λ i. start_of (lane_of (c.self.view_is i).shape) (state_at (c.self.view_is i)) c.args.caller c.args.ops.now)
+returns-clause-running c = λ is. c.start.ensures.running is ∙ λ i. start (lane_of (c.self.view_is i).shape) (state_at (c.self.view_is i)) c.args.caller c.args.ops.now
 
 pub returns-clause-full : goal.returns-clause-full
 returns-clause-full c = λ is. let v = c.args.self.now in let who = c.args.caller in
-    subst (λ (s : State). ((s.callers who).turn ≡ Idle) ↔ (items_of v.shape < enqueue_count (operations (mine v.history who)) + enqueue_count c.args.ops.now)) (sym (returns-clause-running c is))
-    (one_full (lane_of v.shape) (state_at v) who c.args.ops.now c.requires.one (subst (λ (w : View). Lawful (lane_of w.shape) (state_at w)) c.self.view_is c.self.invariant.lawful) c.requires.idle)
+    subst (λ (s : State). ((s.callers who).turn ≡ Idle) ↔ LacksRows (lane_of v.shape) (mine v.history who) c.args.ops.now) (sym (returns-clause-running c is))
+    (start_full (lane_of v.shape) (state_at v) who c.args.ops.now (subst (λ (w : View). Lawful (lane_of w.shape) (state_at w)) c.self.view_is c.self.invariant.lawful) c.requires.command c.requires.idle)
 
 pub returns-clause-refusal_changes_nothing : goal.returns-clause-refusal_changes_nothing
 returns-clause-refusal_changes_nothing c = λ no. c.start.ensures.refusal no ∙ ap state_at c.self.view_is

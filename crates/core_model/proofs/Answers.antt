@@ -1,0 +1,150 @@
+-- The owner of a finished batch reads the values that its dequeues got, and finds its answers by counting.
+use Rattle.std.proofs.Common.{◌≡◌, ℕ, zero, suc, ◌+◌, ◌-◌, Bool, true, false, List, [], ◌∷◌, ◌++◌, length, take, sym, refl, ap, ◌∙◌, subst, arith, append_assoc, length-append, Option, Some, None}
+use Rattle.std.proofs.lemmas.List.{append-nil}
+use Rattle.bq_model.specs.declared.op.Op.{Op}
+use Rattle.bq_model.specs.declared.op.Op.TheVariants.{Enq, Deq}
+use Rattle.bq_model.specs.declared.op.Answer.{Answer}
+use Rattle.bq_model.specs.declared.op.Answer.TheVariants.{Done, Got, Empty}
+use Rattle.bq_model.specs.declared.group.Group.{Group}
+use Rattle.bq_model.specs.Replay.{answers_from}
+use Rattle.bq_model.specs.History.{last_queue}
+use Rattle.excess_count.specs.Got.{got_count, enqueued, values_from}
+use Rattle.excess_count.proofs.ReplayLaws.{got_count-done, got_count-got, got_count-empty, got_count-counted}
+use Rattle.word_rows.specs.declared.place.Place.{Place}
+use Rattle.word_rows.specs.declared.batch_words.BatchCounts.{BatchCounts}
+use Rattle.word_rows.specs.declared.link_word.LinkWord.{LinkWord}
+use Rattle.word_rows.specs.declared.link_word.LinkWord.TheVariants.{Nil, Single, Chain, Shut}
+use Rattle.word_rows.specs.declared.location.AnnField.TheVariants as field
+use Rattle.word_rows.specs.declared.location.Location.TheVariants.{Link, Value, AnnWord}
+use Rattle.word_rows.specs.declared.content.Content.TheVariants.{OfLink, OfValue, OfOldTail}
+use Rattle.core_model.specs.declared.turn.Help.{Help}
+use Rattle.core_model.specs.declared.turn.Turn.TheVariants.{AnswerTail, AnswerLink, AnswerValue}
+use Rattle.core_model.specs.Functions.{put, run}
+use Rattle.core_model.specs.Lane.{Lane}
+use Rattle.core_model.specs.Batches.{tally, gets, paired}
+use Rattle.core_model.specs.State.{Memory, Caller, State, write}
+use Rattle.core_model.specs.Step.{own_group, ended, turned_with, before_it, reads_on, step_with, step_at}
+use Rattle.core_model.specs.Ghost.{Ghost, joint}
+use Rattle.core_model.specs.Facts.{Landed, landed_is, has_read, is_reading, Holds, Each, turn_facts}
+use Rattle.core_model.specs.Lawful.{Lawful}
+use Rattle.core_model.proofs.Puts.{run_last}
+use Rattle.core_model.proofs.Stays.{world, some_none}
+use Rattle.core_model.proofs.Keeps.{known, quiet, turns_with, finishes, changed, write_read}
+
+-- the answers by counting are the replay's, where the values are those that the replay gets
+pub paired_right : (ops : List Op) (q vs : List ℕ) → vs ≡ take (got_count (answers_from q ops)) (values_from q ops) → paired ops (length q) vs ≡ answers_from q ops
+paired_right [] q vs e = refl
+paired_right (Enq v ∷ ops) q vs e = let long : suc (length q) ≡ length (q ++ v ∷ []) = (let l : suc (length q) ≡ length q + 1 = omega arith in l) ∙ sym (length-append q (v ∷ [])) in
+    ap (λ (xs : List Answer). Done ∷ xs) (ap (λ (n : ℕ). paired ops n vs) long
+    ∙ paired_right ops (q ++ v ∷ []) vs (e ∙ (λ i. take (got_count-done (answers_from (q ++ v ∷ []) ops) i) (sym (append_assoc q (v ∷ []) (enqueued ops)) i))))
+paired_right (Deq ∷ ops) [] vs e = ap (λ (xs : List Answer). Empty ∷ xs) (paired_right ops [] vs (e ∙ ap (λ (n : ℕ). take n (enqueued ops)) (got_count-empty (answers_from [] ops))))
+paired_right (Deq ∷ ops) (v ∷ q) vs e = let rest : List ℕ = take (got_count (answers_from q ops)) (values_from q ops) in
+    ap (paired (Deq ∷ ops) (suc (length q))) (e ∙ ap (λ (n : ℕ). take n (v ∷ values_from q ops)) (got_count-got v (answers_from q ops)))
+    ∙ ap (λ (xs : List Answer). Got v ∷ xs) (paired_right ops q rest refl)
+
+module _ (z : Lane) (s : State) (L : Lawful z s) (c : ℕ) where
+  abbrev G : Ghost
+  G = L.ghost
+
+  abbrev me : Caller
+  me = s.callers c
+
+  abbrev own : Group
+  own = own_group c (s.callers c)
+
+  -- where all values are read, the answers are the replay's at the place of the group
+  read_right : (a i m : ℕ) (vs : List ℕ) (R : Landed z (world s L.ghost) a i (s.callers c).started_at (own_group c (s.callers c))) (x : ℕ) → m ≡ i - R.dummy → x + 0 ≡ gets (s.memory.said a).counts m
+      → vs ≡ run (λ j. s.memory.value (L.ghost.path j)) (suc R.dummy) x → paired (s.callers c).ops m vs ≡ answers_from (last_queue R.pre) (s.callers c).ops
+  read_right a i m vs R x m_is sum vals = ap (λ (n : ℕ). paired me.ops n vs) (m_is ∙ sym R.length_queue) ∙ paired_right me.ops (last_queue R.pre) vs all where
+    many : got_count (answers_from (last_queue R.pre) me.ops) ≡ gets (s.memory.said a).counts (i - R.dummy)
+    many = got_count-counted (tally (s.memory.said a).counts) me.ops (last_queue R.pre) (i - R.dummy) (ap tally R.counts) R.length_queue
+
+    all_read : x ≡ gets (s.memory.said a).counts (i - R.dummy)
+    all_read = (let e : x ≡ x + 0 = omega arith in e) ∙ (sum ∙ ap (gets (s.memory.said a).counts) m_is)
+
+    all : vs ≡ take (got_count (answers_from (last_queue R.pre) me.ops)) (values_from (last_queue R.pre) me.ops)
+    all = vals ∙ (ap (run (λ j. s.memory.value (G.path j)) (suc R.dummy)) all_read ∙ (sym R.values ∙ ap (λ (n : ℕ). take n (values_from (last_queue R.pre) me.ops)) (sym many)))
+
+  -- the owner reads on, or its command ends
+  on_read : (m r l : ℕ) (vs : List ℕ) (memory : Memory) → memory ≡ s.memory → Holds z (world s L.ghost) c (landed_is true) → Holds z (world s L.ghost) c (has_read (s.callers c).started_at (own_group c (s.callers c)) m vs l r)
+      → Lawful z (changed s c memory [] (reads_on (length (s.history ++ [])) c (s.callers c) m r l vs))
+  on_read m r zero vs memory is on (a, i, d, R, x, m_is, sum, row, vals) =
+      subst (λ (y : Memory × List Group). Lawful z record { memory = y.0; history = y.1; callers = put s.callers c (ended (length y.1) c me (paired me.ops m vs)) }) (λ k. (sym is k, sym (append-nil s.history) k))
+      (finishes z s L c (paired me.ops m vs) on.0 on.1 (record { before = R.pre; behind = R.post; place = R.stands; right = read_right a i m vs R x m_is sum vals }) R.since_start)
+  on_read m r (suc l) vs memory is on rd =
+      subst (λ (y : Memory × List Group). Lawful z record { memory = y.0; history = y.1; callers = put s.callers c (turned_with me (AnswerLink m r l) vs) }) (λ k. (sym is k, sym (append-nil s.history) k))
+      (turns_with z s L c (AnswerLink m r l) vs on.1 (on, (rd, tt)))
+
+  -- OldTail tells how many values were queued before the batch, and none is read yet
+  module _ (h : Help) (q : Place) (at_q : s.memory.old_tail h.ann ≡ Some q) (f : Each z (world s L.ghost) c (turn_facts z c (s.callers c) (AnswerTail h))) where
+    abbrev i : ℕ
+    i = f.1.1.0.0
+
+    landed : (L.ghost.landed c ≡ true) × Landed z (world s L.ghost) h.ann f.1.1.0.0 (s.callers c).started_at (own_group c (s.callers c))
+    landed = f.1.1.1.0.2 f.1.1.0.0 f.1.1.0.1
+
+    m_is : before_it h q ≡ f.1.1.0.0 - landed.1.dummy
+    m_is = let R = landed.1 in let qc = ap (λ (p : Place). p.count) (L.announced.recorded h.ann f.1.1.0.0 q f.1.1.0.1 at_q) in let hc = ap (λ (p : Place). p.count) (sym (f.1.0.2 (omega arith)) ∙ R.old_head) in omega arith
+
+    none_read : Holds z (world s L.ghost) c (has_read (s.callers c).started_at (own_group c (s.callers c)) (before_it h q) [] (gets h.counts (before_it h q)) h.old_head.row)
+    none_read = let R = landed.1 in (
+      h.ann,
+      f.1.1.0.0,
+      f.1.1.0.1,
+      R,
+      0,
+      m_is,
+      (let e : 0 + gets h.counts (before_it h q) ≡ gets h.counts (before_it h q) = omega arith in e) ∙ ap (λ (k : BatchCounts). gets k (before_it h q)) (sym (f.1.0.5 (omega arith))),
+      ap G.path (let e : R.dummy + 0 ≡ R.dummy = omega arith in e) ∙ ap (λ (p : Place). p.row) (sym R.old_head ∙ f.1.0.2 (omega arith)),
+      refl,
+    )
+
+  tail_loaded : (h : Help) (x : Option Place) → s.memory.old_tail h.ann ≡ x → Each z (world s L.ghost) c (turn_facts z c (s.callers c) (AnswerTail h)) → Lawful z (step_with z s c (AnswerTail h) (OfOldTail x))
+  tail_loaded h None at_none f = absurd (some_none (sym f.1.1.0.2.1 ∙ at_none))
+  tail_loaded h (Some q) at_q f = on_read (before_it h q) h.old_head.row (gets h.counts (before_it h q)) [] (write s.memory (AnnWord h.ann field.OldTail) (OfOldTail (Some q)))
+      (ap (write s.memory (AnnWord h.ann field.OldTail)) (ap OfOldTail (sym at_q)) ∙ write_read s.memory (AnnWord h.ann field.OldTail)) f.0 (none_read h q at_q f)
+
+  pub keeps_answer_tail : (h : Help) → (s.callers c).turn ≡ AnswerTail h → Lawful z (step_at z s c (AnswerTail h))
+  keeps_answer_tail h is = tail_loaded h (s.memory.old_tail h.ann) refl (known z s L c (AnswerTail h) is)
+
+  -- the link of a row that was read names the next one
+  next_row : (m r l n : ℕ) → ((b : Bool) (x : ℕ) → joint b x ≡ s.memory.link r → x ≡ n) → Holds z (world s L.ghost) c (has_read (s.callers c).started_at (own_group c (s.callers c)) m (s.callers c).values (suc l) r)
+      → Holds z (world s L.ghost) c (is_reading (s.callers c).started_at (own_group c (s.callers c)) m (s.callers c).values l n)
+  next_row m r l n names (a, i, d, R, x, m_is, sum, row, vals) = let all : gets (s.memory.said a).counts m ≡ gets (s.memory.said a).counts (i - R.dummy) = ap (gets (s.memory.said a).counts) m_is in let e = sum in
+      let here = R.rows x (omega arith) in let next = R.rows (suc x) (omega arith) in let inside = next.0 in
+      (a, i, d, R, x, m_is, sum, names (G.chained (R.dummy + x)) (G.path (suc (R.dummy + x))) (sym (here.3.1 (omega arith)) ∙ ap s.memory.link row), vals)
+
+  link_read : (m r l : ℕ) (x : LinkWord) → s.memory.link r ≡ x → Each z (world s L.ghost) c (turn_facts z c (s.callers c) (AnswerLink m r l)) → Lawful z (step_with z s c (AnswerLink m r l) (OfLink x))
+  link_read m r l Nil is f = quiet z s L c (AnswerLink m r l) (Link r) (OfLink Nil) (ap OfLink is) f
+  link_read m r l Shut is f = quiet z s L c (AnswerLink m r l) (Link r) (OfLink Shut) (ap OfLink is) f
+  link_read m r l (Single n) is (on, (rd, _)) = quiet z s L c (AnswerValue m n l) (Link r) (OfLink (Single n)) (ap OfLink is) (on, (next_row m r l n (λ b x e. names b x (e ∙ is)) rd, tt)) where
+    names : (b : Bool) (x : ℕ) → joint b x ≡ Single n → x ≡ n
+    names true x e = absurd (cc e)
+    names false x e = cc e
+  link_read m r l (Chain n) is (on, (rd, _)) = quiet z s L c (AnswerValue m n l) (Link r) (OfLink (Chain n)) (ap OfLink is) (on, (next_row m r l n (λ b x e. names b x (e ∙ is)) rd, tt)) where
+    names : (b : Bool) (x : ℕ) → joint b x ≡ Chain n → x ≡ n
+    names true x e = cc e
+    names false x e = absurd (cc e)
+
+  pub keeps_answer_link : (m r l : ℕ) → (s.callers c).turn ≡ AnswerLink m r l → Lawful z (step_at z s c (AnswerLink m r l))
+  keeps_answer_link m r l is = link_read m r l (s.memory.link r) refl (known z s L c (AnswerLink m r l) is)
+
+  -- one value more
+  value_read : (m r l : ℕ) → Holds z (world s L.ghost) c (is_reading (s.callers c).started_at (own_group c (s.callers c)) m (s.callers c).values l r)
+      → Holds z (world s L.ghost) c (has_read (s.callers c).started_at (own_group c (s.callers c)) m ((s.callers c).values ++ s.memory.value r ∷ []) l r)
+  value_read m r l (a, i, d, R, x, m_is, sum, row, vals) = (
+    a,
+    i,
+    d,
+    R,
+    suc x,
+    m_is,
+    (let e : suc x + l ≡ x + suc l = omega arith in e) ∙ sum,
+    ap G.path (let e : R.dummy + suc x ≡ suc (R.dummy + x) = omega arith in e) ∙ row,
+    (λ k. vals k ++ s.memory.value (sym row k) ∷ []) ∙ (ap (λ (y : ℕ). run (λ j. s.memory.value (G.path j)) (suc R.dummy) x ++ s.memory.value (G.path y) ∷ []) (let e : suc (R.dummy + x) ≡ suc R.dummy + x = omega arith in e)
+        ∙ sym (run_last (λ j. s.memory.value (G.path j)) (suc R.dummy) x)),
+  )
+
+  pub keeps_answer_value : (m r l : ℕ) → (s.callers c).turn ≡ AnswerValue m r l → Lawful z (step_at z s c (AnswerValue m r l))
+  keeps_answer_value m r l is = let f = known z s L c (AnswerValue m r l) is in
+      on_read m r l (me.values ++ s.memory.value r ∷ []) (write s.memory (Value r) (OfValue (s.memory.value r))) (write_read s.memory (Value r)) f.0 (value_read m r l f.1.0)

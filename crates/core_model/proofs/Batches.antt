@@ -1,0 +1,302 @@
+-- The owner of a batch fills its rows, writes its announcement, and installs that.
+use Rattle.std.proofs.Common.{◌≡◌, ◌≢◌, inl, ℕ, suc, ◌+◌, ◌-◌, ◌<◌, ◌≤◌, eqb, Bool, true, false, cond, List, [], ◌∷◌, ◌++◌, length, get_or, sym, refl, ap, ◌∙◌, subst, arith, le_refl, eq-eqb, Option, Some, None}
+use Rattle.std.proofs.lemmas.List.{append-nil}
+use Rattle.std.proofs.lemmas.Bool.{eqb-true}
+use mathlib.Core.Logic.{dite}
+use native.Mathlib.Decide.{ℕ_discrete}
+use Rattle.bq_model.specs.declared.op.Op.{Op}
+use Rattle.bq_model.specs.declared.op.Op.TheVariants.{Enq, Deq}
+use Rattle.bq_model.specs.declared.group.Group.{Group}
+use Rattle.bq_model.specs.History.{operations, last_queue}
+use Rattle.bq_model.specs.Own.{mine}
+use Rattle.bq_model.specs.Proper.{IsProper}
+use Rattle.excess_count.specs.Excess.{enqueue_count}
+use Rattle.excess_count.specs.Got.{enqueued}
+use Rattle.excess_count.proofs.ExcessLaws.{enqueue_count-enq, enqueue_count-deq}
+use Rattle.word_rows.specs.declared.place.Place.{Place}
+use Rattle.word_rows.specs.declared.link_word.LinkWord.{LinkWord}
+use Rattle.word_rows.specs.declared.link_word.LinkWord.TheVariants.{Single}
+use Rattle.word_rows.specs.declared.location.AnnField.{AnnField}
+use Rattle.word_rows.specs.declared.location.AnnField.TheVariants as field
+use Rattle.core_model.specs.declared.turn.Notice.{Notice}
+use Rattle.core_model.specs.declared.turn.Draft.{Draft}
+use Rattle.core_model.specs.declared.turn.Turn.{Turn}
+use Rattle.core_model.specs.declared.turn.Turn.TheVariants.{BatchValue, BatchChain, BatchField, BatchHead, Install}
+use Rattle.core_model.specs.Functions.{put, run}
+use Rattle.core_model.specs.Lane.{Lane, item}
+use Rattle.core_model.specs.Batches.{owner_of}
+use Rattle.core_model.specs.State.{Memory, Caller, command, State}
+use Rattle.core_model.specs.Step.{turned, step_at}
+use Rattle.core_model.specs.Ghost.{unused, waiting, decided, Ghost, World, places, at}
+use Rattle.core_model.specs.Kept.{Kept}
+use Rattle.core_model.specs.Facts.{AllAgree, stored_before, fills, Holds, Each, batch_facts, turn_facts}
+use Rattle.core_model.specs.Lawful.{shown_queue, LinksIn, Bound, Standing, Announced, Told, Pending, Lawful}
+use Rattle.core_model.proofs.Puts.{put_here, put_else, run_same}
+use Rattle.core_model.proofs.Stays.{world, unused_waits, unused_decides, some_none, anns_same, anns_moved, Grows, owns_stays}
+use Rattle.core_model.proofs.Keeps.{kept_turned, Plain, known, keeps, changed, drafts_same, told_on, waits_on, waits_there, same_unmade}
+use Rattle.core_model.proofs.Announces.{told_same, pending_same, links_put}
+
+-- a list by its values
+pub run_of : (vs : List ℕ) (f : ℕ → ℕ) (i : ℕ) → ((l : ℕ) → l < length vs → f (i + l) ≡ get_or vs l 0) → vs ≡ run f i (length vs)
+run_of [] f i each = refl
+run_of (v ∷ vs) f i each = λ k. (sym (each 0 (omega arith)) ∙ ap f (let e : i + 0 ≡ i = omega arith in e)) k
+    ∷ run_of vs f (suc i) (λ l below. ap f (let e : suc i + l ≡ i + suc l = omega arith in e) ∙ each (suc l) (omega arith)) k
+
+pub length-enqueued : (ops : List Op) → length (enqueued ops) ≡ enqueue_count ops
+length-enqueued [] = refl
+length-enqueued (Enq v ∷ ops) = ap suc (length-enqueued ops) ∙ (let e = enqueue_count-enq v ops in let s : suc (enqueue_count ops) ≡ enqueue_count (Enq v ∷ ops) = omega arith in s)
+length-enqueued (Deq ∷ ops) = length-enqueued ops ∙ sym (enqueue_count-deq ops)
+
+differ : true ≡ false → ⊥
+differ e = cc e
+
+module _ (z : Lane) (s : State) (L : Lawful z s) (c : ℕ) where
+  abbrev G : Ghost
+  G = L.ghost
+
+  abbrev me : Caller
+  me = s.callers c
+
+  -- the history is as it was
+  pub still : (P : List Group → Type 0) → P s.history → P (s.history ++ [])
+  still P p = subst P (sym (append-nil s.history)) p
+
+  -- the link or the value of an own row that isn't linked is stored
+  module _ (r : ℕ) (home : z.home r ≡ c) (off : G.spot r ≡ None) (link' : ℕ → LinkWord) (value' : ℕ → ℕ) (links : (q : ℕ) → q ≢ r → link' q ≡ s.memory.link q) (values : (q : ℕ) → q ≢ r → value' q ≡ s.memory.value q)
+      (ranges : (q : ℕ) → LinksIn z.rows (link' q)) (plain : Plain z G c) (t : Turn) (apart : (i : ℕ) → me.taken ≤ i → item z c i ≢ r) where
+    abbrev memory' : Memory
+    memory' = record s.memory { link = link'; value = value' }
+
+    abbrev W : World
+    W = record { memory = memory'; history = s.history ++ []; ghost = G }
+
+    placed : (q i : ℕ) → G.spot q ≡ Some i → q ≢ r
+    placed q i at e = some_none (sym at ∙ (ap G.spot e ∙ off))
+
+    on_path : (i : ℕ) → G.head ≤ i → i < places G → G.path i ≢ r
+    on_path i from below = placed (G.path i) i (L.rows.spots i from below)
+
+    grows : Grows z (λ q. q ≡ r) (world s G) W
+    grows = record {
+      longer = le_refl _;
+      heads = le_refl _;
+      tails = le_refl _;
+      path_same = λ _ _. refl;
+      chained_same = λ _ _. refl;
+      spot_own = λ _ u _. u;
+      on_same = λ i q on. (on.1, ((λ e. links q (placed q i on.1) ∙ on.3.0 e), λ e. links q (placed q i on.1) ∙ on.3.1 e), values q (placed q i on.1));
+      link_own = λ q _ touch. links q touch;
+      value_own = λ q _ touch. values q touch;
+      value_path = λ i from below. values (G.path i) (on_path i from below);
+      anns = anns_same z (world s G) W refl refl refl refl refl refl;
+      more = ([], refl);
+    }
+
+    k' : Caller
+    k' = turned me t
+
+    pub row_stored : Each z W c (turn_facts z c (turned me t) t) → Lawful z (changed s c memory' [] (turned me t))
+    row_stored knows = keeps z s L c memory' [] G (turned me t) (λ q. q ≡ r) (λ q e. ap z.home e ∙ home) grows
+        (λ d _. (refl, ap (λ (h : List Group). mine h d) (append-nil s.history), drafts_same z (world s G) W refl refl refl d))
+        (still (IsProper z.callers) L.history)
+        (still (λ h. last_queue h ≡ run (λ i. value' (G.path i)) (suc (G.head + G.shown)) G.queued)
+        (L.queue ∙ run_same (λ i. s.memory.value (G.path i)) (λ i. value' (G.path i)) (suc (G.head + G.shown)) G.queued (λ j from below. let fits = L.head.fits in sym (values (G.path j) (on_path j (omega arith) (omega arith))))))
+        (record {
+          joined = λ i from below. links (G.path i) (on_path i from (omega arith)) ∙ L.rows.joined i from below;
+          last = links (G.path (G.head + G.rest)) (on_path (G.head + G.rest) (omega arith) (omega arith)) ∙ L.rows.last;
+          spots = L.rows.spots;
+          inside = L.rows.inside;
+        })
+        L.item_rows L.head L.tail
+        (still (λ h. G.head + G.rest ≤ length (operations h)) L.counts)
+        ranges L.announced
+        (told_on z s L c memory' G t (inl plain) (λ a at_head. told_same s.memory.value value' G.path G.path (G.stage a) (s.memory.said a) (owner_of z a) (s.callers (owner_of z a))
+        (λ i j d from below. let inside = (L.announced.bound a i d).within in let head = (L.announced.standing a i at_head d).from in values (G.path j) (on_path j (omega arith) (omega arith))) (L.told a at_head)))
+        (waits_on z s L c memory' G t (λ a waits. let p = L.pending a waits in let ne = λ (i : ℕ) (below : i < (s.memory.said a).counts.enqs) (e : G.chain i ≡ r). plain a (waits_there z s L c a waits) (sym (p.homes i below) ∙ (ap z.home e ∙ home)) in
+        pending_same z s.memory.link link' s.memory.value value' G.spot G.spot G.chain (G.landed (owner_of z a)) (G.landed (owner_of z a)) (s.memory.said a) (owner_of z a) (s.callers (owner_of z a))
+        (λ i below. links (G.chain i) (ne i below)) (λ i below. values (G.chain i) (ne i below)) p.unlinked refl p))
+        (same_unmade z s L c (turned me t) refl)
+        (ap (λ (h : List Group). mine h c) (append-nil s.history) ∙ L.own_groups c)
+        (L.allowed c)
+        (let f = L.kept_facts c in (
+          (λ i from below known. owns_stays z (λ q. q ≡ r) (world s G) W grows c (item z c i) (apart i from) (f.0 i from below known)),
+          (still (λ h. me.started_at ≤ length h) f.1.0, (still (λ h. Kept h c (turned me t)) (kept_turned s.history c me t me.values f.1.1.0), knows)),
+        ))
+
+  -- a value
+  module _ (d : Draft) (i v : ℕ) (f : Each z (world s L.ghost) c (turn_facts z c (s.callers c) (BatchValue d i v))) where
+    rows : Holds z (world s L.ghost) c (fills (s.callers c).taken d.notice (s.callers c).ops i 0)
+    rows = f.1.1.0
+
+    abbrev value_at : ℕ → ℕ
+    value_at = put s.memory.value (d.notice.first + i) v
+
+    abbrev V : World
+    V = record { memory = record s.memory { value = value_at }; history = s.history ++ []; ghost = G }
+
+    value_filled : Holds z V c (fills me.taken d.notice me.ops (suc i) 0)
+    value_filled = (
+      rows.0,
+      rows.1,
+      (λ l below more. dite (ℕ_discrete l i)
+          (λ e. subst (λ (y : ℕ). value_at (d.notice.first + y) ≡ get_or (enqueued me.ops) y 0) (sym e) (put_here s.memory.value (d.notice.first + i) v ∙ f.1.1.1.1.0.1))
+          (λ ne. put_else s.memory.value (d.notice.first + i) v (d.notice.first + l) (λ e. omega arith) ∙ rows.2 l below (omega arith))),
+      rows.3,
+      rows.4,
+    )
+
+    value_next : (b one : Bool) → eqb (suc i) d.notice.counts.enqs ≡ b → eqb d.notice.counts.enqs 1 ≡ one
+        → Lawful z (changed s c (record s.memory { value = value_at }) [] (turned me (cond b (cond one (BatchField d field.OldTail) (BatchChain d 0)) (BatchValue d (suc i) (get_or (enqueued me.ops) (suc i) 0)))))
+    value_next b one eb eo = let mine' = rows.0 i f.1.1.1.1.0.0 in row_stored (d.notice.first + i) mine'.0 mine'.2 s.memory.link value_at (λ _ _. refl) (λ q ne. put_else s.memory.value (d.notice.first + i) v q ne) L.links f.0.1
+        (cond b (cond one (BatchField d field.OldTail) (BatchChain d 0)) (BatchValue d (suc i) (get_or (enqueued me.ops) (suc i) 0))) (λ x from. rows.1 i x f.1.1.1.1.0.0 from) (knows b one eb eo) where
+          knows : (b one : Bool) → eqb (suc i) d.notice.counts.enqs ≡ b → eqb d.notice.counts.enqs 1 ≡ one
+              → Each z V c (turn_facts z c (turned me (cond b (cond one (BatchField d field.OldTail) (BatchChain d 0)) (BatchValue d (suc i) (get_or (enqueued me.ops) (suc i) 0)))) (cond b (cond one (BatchField d field.OldTail) (BatchChain d 0)) (BatchValue d (suc i) (get_or (enqueued me.ops) (suc i) 0))))
+          knows true true eb eo = let all = eqb-true (suc i) d.notice.counts.enqs eb in let single = eqb-true d.notice.counts.enqs 1 eo in
+              (f.0, (f.1.0, (subst (λ (y : ℕ × ℕ). Holds z V c (fills me.taken d.notice me.ops y.0 y.1)) (λ k. (all k, (let e : 0 ≡ d.notice.counts.enqs - 1 = omega arith in e) k)) value_filled, (f.1.1.1.0, tt))))
+          knows true false eb eo = let all = eqb-true (suc i) d.notice.counts.enqs eb in let some = f.1.0.2 in (
+            f.0,
+            (
+              f.1.0,
+              (
+                subst (λ (y : ℕ). Holds z V c (fills me.taken d.notice me.ops y 0)) all value_filled,
+                (
+                  f.1.1.1.0,
+                  (dite (ℕ_discrete d.notice.counts.enqs 1) (λ e. absurd (differ (sym (eq-eqb d.notice.counts.enqs 1 e) ∙ eo))) (λ ne. omega arith), tt),
+                ),
+              ),
+            ),
+          )
+          knows false _ eb _ = let below = f.1.1.1.1.0.0 in
+              (f.0, (f.1.0, (value_filled, (f.1.1.1.0, ((dite (ℕ_discrete (suc i) d.notice.counts.enqs) (λ e. absurd (differ (sym (eq-eqb (suc i) d.notice.counts.enqs e) ∙ eb))) (λ ne. omega arith), refl), tt)))))
+
+  pub keeps_batch_value : (d : Draft) (i v : ℕ) → (s.callers c).turn ≡ BatchValue d i v → Lawful z (step_at z s c (BatchValue d i v))
+  keeps_batch_value d i v is = value_next d i v (known z s L c (BatchValue d i v) is) (eqb (suc i) d.notice.counts.enqs) (eqb d.notice.counts.enqs 1) refl refl
+
+  -- a link inside the own chain
+  module _ (d : Draft) (i : ℕ) (f : Each z (world s L.ghost) c (turn_facts z c (s.callers c) (BatchChain d i))) where
+    rows_there : Holds z (world s L.ghost) c (fills (s.callers c).taken d.notice (s.callers c).ops d.notice.counts.enqs i)
+    rows_there = f.1.1.0
+
+    abbrev link_at : ℕ → LinkWord
+    link_at = put s.memory.link (d.notice.first + i) (Single (suc (d.notice.first + i)))
+
+    abbrev U : World
+    U = record { memory = record s.memory { link = link_at }; history = s.history ++ []; ghost = G }
+
+    link_filled : Holds z U c (fills me.taken d.notice me.ops d.notice.counts.enqs (suc i))
+    link_filled = (
+      rows_there.0,
+      rows_there.1,
+      rows_there.2,
+      (λ l below more. dite (ℕ_discrete l i)
+          (λ e. subst (λ (y : ℕ). link_at (d.notice.first + y) ≡ Single (suc (d.notice.first + y))) (sym e) (put_here s.memory.link (d.notice.first + i) (Single (suc (d.notice.first + i)))))
+          (λ ne. put_else s.memory.link (d.notice.first + i) (Single (suc (d.notice.first + i))) (d.notice.first + l) (λ e. omega arith) ∙ rows_there.3 l below (omega arith))),
+      λ l below more. put_else s.memory.link (d.notice.first + i) (Single (suc (d.notice.first + i))) (d.notice.first + l) (λ e. omega arith) ∙ rows_there.4 l below (omega arith),
+    )
+
+    link_next : (b : Bool) → eqb (suc (suc i)) d.notice.counts.enqs ≡ b
+        → Lawful z (changed s c (record s.memory { link = link_at }) [] (turned me (cond b (BatchField d field.OldTail) (BatchChain d (suc i)))))
+    link_next b eb = let next : suc i < d.notice.counts.enqs = f.1.1.1.1.0 in let below : i < d.notice.counts.enqs = omega arith in let mine' = rows_there.0 i below in let inside = (rows_there.0 (suc i) next).1 in
+        row_stored (d.notice.first + i) mine'.0 mine'.2 link_at s.memory.value (λ q ne. put_else s.memory.link (d.notice.first + i) (Single (suc (d.notice.first + i))) q ne) (λ _ _. refl)
+        (links_put z.rows s.memory.link (d.notice.first + i) (Single (suc (d.notice.first + i))) (omega arith) L.links) f.0.1
+        (cond b (BatchField d field.OldTail) (BatchChain d (suc i))) (λ x from. rows_there.1 i x below from) (knows b eb) where
+          knows : (b : Bool) → eqb (suc (suc i)) d.notice.counts.enqs ≡ b → Each z U c (turn_facts z c (turned me (cond b (BatchField d field.OldTail) (BatchChain d (suc i)))) (cond b (BatchField d field.OldTail) (BatchChain d (suc i))))
+          knows true eb = let all = eqb-true (suc (suc i)) d.notice.counts.enqs eb in
+              (f.0, (f.1.0, (subst (λ (y : ℕ). Holds z U c (fills me.taken d.notice me.ops d.notice.counts.enqs y)) (let e : suc i ≡ d.notice.counts.enqs - 1 = omega arith in e) link_filled, (f.1.1.1.0, tt))))
+          knows false eb = let next : suc i < d.notice.counts.enqs = f.1.1.1.1.0 in
+              (f.0, (f.1.0, (link_filled, (f.1.1.1.0, (dite (ℕ_discrete (suc (suc i)) d.notice.counts.enqs) (λ e. absurd (differ (sym (eq-eqb (suc (suc i)) d.notice.counts.enqs e) ∙ eb))) (λ ne. omega arith), tt)))))
+
+  pub keeps_batch_chain : (d : Draft) (i : ℕ) → (s.callers c).turn ≡ BatchChain d i → Lawful z (step_at z s c (BatchChain d i))
+  keeps_batch_chain d i is = link_next d i (known z s L c (BatchChain d i) is) (eqb (suc (suc i)) d.notice.counts.enqs) refl
+
+  -- a word of an own announcement that isn't installed is stored
+  module _ (a : ℕ) (fresh : G.stage a ≡ unused) (own : owner_of z a ≡ c) (said' : ℕ → Notice) (old' : ℕ → Option Place) (saids : (x : ℕ) → x ≢ a → said' x ≡ s.memory.said x) (olds : (x : ℕ) → x ≢ a → old' x ≡ s.memory.old_tail x)
+      (plain : Plain z G c) (t : Turn) where
+    abbrev memory_ann : Memory
+    memory_ann = record s.memory { said = said'; old_tail = old' }
+
+    abbrev S : World
+    S = record { memory = memory_ann; history = s.history ++ []; ghost = G }
+
+    other : (x : ℕ) → G.stage x ≢ unused → x ≢ a
+    other x there e = there (ap G.stage e ∙ fresh)
+
+    other_waits : (x : ℕ) → G.stage x ≡ waiting → x ≢ a
+    other_waits x e = other x (λ u. unused_waits u e)
+
+    other_decided : (x i : ℕ) → G.stage x ≡ decided i → x ≢ a
+    other_decided x i e = other x (λ u. unused_decides u e)
+
+    storing : Grows z (λ _. ⊥) (world s G) S
+    storing = record {
+      longer = le_refl _;
+      heads = le_refl _;
+      tails = le_refl _;
+      path_same = λ _ _. refl;
+      chained_same = λ _ _. refl;
+      spot_own = λ _ u _. u;
+      on_same = λ i r on. (on.1, on.3, refl);
+      link_own = λ _ _ _. refl;
+      value_own = λ _ _ _. refl;
+      value_path = λ _ _ _. refl;
+      anns = anns_moved z (world s G) S refl (λ x there. saids x (other x there)) (λ x q there e. olds x (other x there) ∙ e) (λ x at. (at, refl, refl));
+      more = ([], refl);
+    }
+
+    announced_as : Announced z memory_ann G
+    announced_as = let A = L.announced in record {
+      inside = A.inside;
+      installed = A.installed;
+      old_head = λ x at. ap (λ (n : Notice). n.old_head) (saids x (other x (A.installed x at))) ∙ A.old_head x at;
+      waits = A.waits;
+      bound = λ x i e. subst (λ (n : Notice). Bound z.first G.path G.chained G.cause (G.head + G.rest) G.tail n x i) (sym (saids x (other_decided x i e))) (A.bound x i e);
+      standing = λ x i at e. subst (λ (n : Notice). Standing G.head G.shown G.tail n i) (sym (saids x (other_decided x i e))) (A.standing x i at e);
+      unknown = λ x e. olds x (other_waits x e) ∙ A.unknown x e;
+      recorded = λ x i q e is. A.recorded x i q e (sym (olds x (other_decided x i e)) ∙ is);
+      unrecorded = λ x i e is. A.unrecorded x i e (sym (olds x (other_decided x i e)) ∙ is);
+      lags = λ below by. let x = A.lags below by in (x.0, x.1, x.2, subst (λ (n : Notice). G.head + G.rest ≤ G.tail + n.counts.enqs) (sym (saids x.0 (other_decided x.0 G.tail x.1))) x.3);
+    }
+
+    pub ann_stored : Each z S c (turn_facts z c (turned me t) t) → Lawful z (changed s c memory_ann [] (turned me t))
+    ann_stored knows = keeps z s L c memory_ann [] G (turned me t) (λ _. ⊥) (λ _ x. absurd x) storing
+        (λ d n. (refl, ap (λ (h : List Group). mine h d) (append-nil s.history), λ x is u. let ne = λ (e : x ≡ a). n (sym is ∙ (ap (owner_of z) e ∙ own)) in (u, saids x ne, olds x ne)))
+        (still (IsProper z.callers) L.history)
+        (still (λ h. last_queue h ≡ shown_queue s.memory.value G) L.queue)
+        L.rows L.item_rows L.head L.tail
+        (still (λ h. G.head + G.rest ≤ length (operations h)) L.counts)
+        L.links announced_as
+        (told_on z s L c memory_ann G t (inl plain) (λ x at_head. subst (λ (n : Notice). Told s.memory.value G.path (G.stage x) n (owner_of z x) (s.callers (owner_of z x))) (sym (saids x (other x (L.announced.installed x at_head)))) (L.told x at_head)))
+        (waits_on z s L c memory_ann G t (λ x waits. subst (λ (n : Notice). Pending z s.memory.link s.memory.value G.spot G.chain (G.landed (owner_of z x)) n (owner_of z x) (s.callers (owner_of z x))) (sym (saids x (other_waits x waits))) (L.pending x waits)))
+        (same_unmade z s L c (turned me t) refl)
+        (ap (λ (h : List Group). mine h c) (append-nil s.history) ∙ L.own_groups c)
+        (L.allowed c)
+        (let f = L.kept_facts c in (
+          (λ i from below known. owns_stays z (λ _. ⊥) (world s G) S storing c (item z c i) (λ x. x) (f.0 i from below known)),
+          (still (λ h. me.started_at ≤ length h) f.1.0, (still (λ h. Kept h c (turned me t)) (kept_turned s.history c me t me.values f.1.1.0), knows)),
+        ))
+
+  -- a field of what the draft says
+  said_stored : (d : Draft) (f : AnnField) (n : Notice) (next : AnnField) → Each z (world s L.ghost) c (batch_facts z (command (s.callers c)) d f)
+      → AllAgree (stored_before next) (s.memory.old_tail d.ann) n d.notice → Lawful z (changed s c (record s.memory { said = put s.memory.said d.ann n }) [] (turned (s.callers c) (BatchField d next)))
+  said_stored d f n next (off, (is, (rows, (w, _)))) agrees = ann_stored d.ann w.0 w.1 (put s.memory.said d.ann n) s.memory.old_tail (λ x ne. put_else s.memory.said d.ann n x ne) (λ _ _. refl) off.1 (BatchField d next)
+      (off, (is, (rows, ((w.0, w.1, subst (λ (y : Notice). AllAgree (stored_before next) (s.memory.old_tail d.ann) y d.notice) (sym (put_here s.memory.said d.ann n)) agrees), tt))))
+
+  field_stored : (d : Draft) (f : AnnField) → Each z (world s L.ghost) c (batch_facts z (command (s.callers c)) d f) → Lawful z (step_at z s c (BatchField d f))
+  field_stored d field.OldTail (off, (is, (rows, (w, _)))) = ann_stored d.ann w.0 w.1 s.memory.said (put s.memory.old_tail d.ann None) (λ _ _. refl) (λ x ne. put_else s.memory.old_tail d.ann None x ne) off.1 (BatchField d field.First)
+      (off, (is, (rows, ((w.0, w.1, (put_here s.memory.old_tail d.ann None, tt)), tt))))
+  field_stored d field.First x = said_stored d field.First (record (s.memory.said d.ann) { first = d.notice.first }) field.Last x (refl, x.1.1.1.0.2)
+  field_stored d field.Last x = said_stored d field.Last (record (s.memory.said d.ann) { last = d.notice.last }) field.Counts x (refl, x.1.1.1.0.2)
+  field_stored d field.Counts x = said_stored d field.Counts (record (s.memory.said d.ann) { counts = d.notice.counts }) field.BatchNo x (refl, x.1.1.1.0.2)
+  field_stored d field.BatchNo x = said_stored d field.BatchNo (record (s.memory.said d.ann) { number = d.notice.number }) field.Order0 x (refl, x.1.1.1.0.2)
+  field_stored d field.Order0 x = said_stored d field.Order0 (record (s.memory.said d.ann) { order0 = d.notice.order0 }) field.Order1 x (refl, x.1.1.1.0.2)
+  field_stored d field.Order1 x = said_stored d field.Order1 (record (s.memory.said d.ann) { order1 = d.notice.order1 }) field.Order2 x (refl, x.1.1.1.0.2)
+  field_stored d field.Order2 x = said_stored d field.Order2 (record (s.memory.said d.ann) { order2 = d.notice.order2 }) field.Order3 x (refl, x.1.1.1.0.2)
+  field_stored d field.Order3 (off, (is, (rows, (w, _)))) = let n : Notice = record (s.memory.said d.ann) { order3 = d.notice.order3 } in
+      ann_stored d.ann w.0 w.1 (put s.memory.said d.ann n) s.memory.old_tail (λ x ne. put_else s.memory.said d.ann n x ne) (λ _ _. refl) off.1 (BatchHead d)
+      (off, (is, (rows, ((w.0, w.1, subst (λ (y : Notice). AllAgree (stored_before field.OldHead) (s.memory.old_tail d.ann) y d.notice) (sym (put_here s.memory.said d.ann n)) (refl, w.2)), tt))))
+  field_stored d field.OldHead (off, (is, (rows, (w, _)))) = let n : Notice = record (s.memory.said d.ann) { old_head = d.notice.old_head } in
+      ann_stored d.ann w.0 w.1 (put s.memory.said d.ann n) s.memory.old_tail (λ x ne. put_else s.memory.said d.ann n x ne) (λ _ _. refl) off.1 (Install d)
+      ((w.0, w.1, ap (λ (y : Notice). y.old_head) (put_here s.memory.said d.ann n)), (off, (is, (rows, ((w.0, w.1, subst (λ (y : Notice). AllAgree (stored_before field.OldHead) (s.memory.old_tail d.ann) y d.notice) (sym (put_here s.memory.said d.ann n)) w.2), tt)))))
+
+  pub keeps_batch_field : (d : Draft) (f : AnnField) → (s.callers c).turn ≡ BatchField d f → Lawful z (step_at z s c (BatchField d f))
+  keeps_batch_field d f is = field_stored d f (known z s L c (BatchField d f) is)

@@ -1,0 +1,60 @@
+-- The shown queue, by the words alone.
+use Rattle.std.specs.Prelude.{◌≡◌, ℕ, zero, suc, ◌-◌, ◌==◌, ◌||◌, Bool, false, not, if◌then◌else◌, List, [], ◌∷◌, Option, Some, None}
+use Rattle.word_rows.specs.declared.place.Place.{Place}
+use Rattle.word_rows.specs.declared.head_word.HeadWord.{HeadWord}
+use Rattle.word_rows.specs.declared.head_word.HeadWord.TheVariants.{Node, Ann}
+use Rattle.word_rows.specs.declared.link_word.LinkWord.{LinkWord}
+use Rattle.word_rows.specs.declared.link_word.LinkWord.TheVariants.{Nil, Single, Chain, Shut}
+use Rattle.core_model.specs.Batches.{gets}
+use Rattle.core_model.specs.State.{Memory}
+use Rattle.core_model.specs.Step.{is_unknown}
+
+-- the row that a link names, if any
+abbrev pub linked_row : LinkWord → Option ℕ
+linked_row Nil = None
+linked_row (Single r) = Some r
+linked_row (Chain r) = Some r
+linked_row Shut = None
+
+-- these are the values of the rows behind r, along the links until Nil
+abbrev pub Along : Memory → ℕ → List ℕ → Type 0
+Along m r [] = m.link r ≡ Nil
+Along m r (v ∷ vs) = (n : ℕ) × (linked_row (m.link r) ≡ Some n) × (m.value n ≡ v) × Along m n vs
+
+-- the row so many links behind r; r itself where there is no link
+abbrev pub follow : LinkWord → ℕ → ℕ
+follow Nil r = r
+follow (Single n) r = n
+follow (Chain n) r = n
+follow Shut r = r
+
+abbrev pub row_behind : Memory → ℕ → ℕ → ℕ
+row_behind m r zero = r
+row_behind m r (suc n) = row_behind m (follow (m.link r) r) n
+
+abbrev pub is_chain_of : LinkWord → ℕ → Bool
+is_chain_of Nil first = false
+is_chain_of (Single r) first = false
+is_chain_of (Chain r) first = r == first
+is_chain_of Shut first = false
+
+-- an announcement in HEAD is decided where its OldTail is known, or where the link of TAIL's row is Chain of its First
+abbrev pub is_decided : Memory → ℕ → Bool
+is_decided m a = not (is_unknown (m.old_tail a)) || is_chain_of (m.link m.tail.row) (m.said a).first
+
+-- behind which place that was
+abbrev pub decided_behind : Option Place → Place → Place
+decided_behind (Some q) tail = q
+decided_behind None tail = tail
+
+-- The row behind which the queue is shown: the dummy, or, where a decided announcement stands, the row behind the dummy
+-- by as many as its batch gets.
+abbrev pub shown_head : Memory → HeadWord → ℕ
+shown_head m (Node p) = p.row
+shown_head m (Ann a n) = if is_decided m a
+    then row_behind m (m.said a).old_head.row (gets (m.said a).counts ((decided_behind (m.old_tail a) m.tail).count - (m.said a).old_head.count))
+    else (m.said a).old_head.row
+
+-- the words show this queue
+abbrev pub Shows : Memory → List ℕ → Type 0
+Shows m queue = Along m (shown_head m m.head) queue

@@ -1,0 +1,44 @@
+-- Lists of words as functions, and stores into the words of an announcement.
+use Rattle.std.proofs.Common.{◌≡◌, ◌≢◌, ℕ, zero, suc, ◌<◌, List, [], ◌∷◌, length, get_or, set, replicate, refl, ap, ◌∙◌, arith, get_or-set_same, get_or-set_other}
+use Rattle.std.specs.Vec.{with_item}
+use Rattle.word_rows.specs.declared.location.AnnField.{AnnField}
+use Rattle.word_rows.specs.declared.location.AnnField.TheVariants.{OldHead, OldTail, First, Last, Counts, BatchNo, Order0, Order1, Order2, Order3}
+use Rattle.word_rows.specs.declared.content.Content.{Content}
+use Rattle.core_model.specs.declared.turn.Notice.{Notice}
+use Rattle.core_model.specs.Functions.{put}
+use Rattle.core_model.specs.Notices.{with_field, blank}
+use Rattle.core_model.specs.State.{write_field}
+use Rattle.core_model.proofs.Puts.{put_all}
+use Rattle.step_core.specs.declared.words.Words.{Words}
+use Rattle.step_core.specs.Words.{memory_of}
+
+pub all_same : {A : Type 0} → (n i : ℕ) (x : A) → get_or (replicate n x) i x ≡ x
+all_same zero i x = refl
+all_same (suc n) zero x = refl
+all_same (suc n) (suc i) x = all_same n i x
+
+pub same_at : {A : Type 0} → (xs : List A) (i : ℕ) (d e : A) → i < length xs → get_or xs i d ≡ get_or xs i e
+same_at [] i d e below = absurd (omega arith)
+same_at (x ∷ xs) zero d e below = refl
+same_at (x ∷ xs) (suc i) d e below = same_at xs i d e (omega arith)
+
+pub set_put : {A : Type 0} → (xs : List A) (i : ℕ) (y d : A) → i < length xs → (λ j. get_or (set xs i y) j d) ≡ put (λ j. get_or xs j d) i y
+set_put xs i y d below = λ k j. put_all (λ j. get_or xs j d) i y (λ j v. get_or (set xs i y) j d ≡ v) (get_or-set_same xs i y d below) (λ j apart. get_or-set_other xs i j y d apart) j k
+
+pub notice_written : (w : Words) (a : ℕ) (f : AnnField) (x : Content) (old new : Notice) → a < length w.notices.items → f ≢ OldTail → old ≡ get_or w.notices.items a old → new ≡ with_field old f x
+    → memory_of (record w { notices = with_item w.notices a new }) ≡ write_field (memory_of w) a f x
+notice_written w a f x old new below other was is = by f other is where
+  said : (f : AnnField) → new ≡ with_field old f x → (λ j. get_or (set w.notices.items a new) j blank) ≡ put (λ j. get_or w.notices.items j blank) a (with_field (get_or w.notices.items a blank) f x)
+  said f is = set_put w.notices.items a new blank below ∙ ap (put (λ j. get_or w.notices.items j blank) a) (is ∙ ap (λ (n : Notice). with_field n f x) (was ∙ same_at w.notices.items a old blank below))
+
+  by : (f : AnnField) → f ≢ OldTail → new ≡ with_field old f x → memory_of (record w { notices = with_item w.notices a new }) ≡ write_field (memory_of w) a f x
+  by OldHead o is = λ i. record (memory_of w) { said = said OldHead is i }
+  by OldTail o is = absurd (o refl)
+  by First o is = λ i. record (memory_of w) { said = said First is i }
+  by Last o is = λ i. record (memory_of w) { said = said Last is i }
+  by Counts o is = λ i. record (memory_of w) { said = said Counts is i }
+  by BatchNo o is = λ i. record (memory_of w) { said = said BatchNo is i }
+  by Order0 o is = λ i. record (memory_of w) { said = said Order0 is i }
+  by Order1 o is = λ i. record (memory_of w) { said = said Order1 is i }
+  by Order2 o is = λ i. record (memory_of w) { said = said Order2 is i }
+  by Order3 o is = λ i. record (memory_of w) { said = said Order3 is i }

@@ -1,0 +1,6 @@
+use Rattle.std.proofs.Common.{◌≡◌, take}
+use Rattle.excess_count.specs.Got.{enqueued}
+use Rattle.step_core.proofs.starts.puts_of.Given as goal
+
+abbrev pub invariant-loop-op : goal.invariant-loop-op
+invariant-loop-op l = l.puts.items ≡ enqueued (take l.op-index l.ops)
