@@ -12,7 +12,7 @@ use Rattle.bq_model.specs.declared.group.Group.{Group}
 use Rattle.bq_model.specs.Own.{mine}
 use Rattle.bq_model.specs.Proper.{IsProper}
 use Rattle.word_rows.specs.declared.place.Place.{Place}
-use Rattle.word_rows.specs.declared.head_word.HeadWord.TheVariants.{Node}
+use Rattle.word_rows.specs.declared.head_word.HeadWord.TheVariants.{Node, Ann}
 use Rattle.core_model.specs.declared.turn.Turn.TheVariants.{Idle}
 use Rattle.core_model.specs.declared.turn.CallEnd.TheVariants.{Done}
 use Rattle.core_model.specs.Lane.{Lane}
@@ -98,3 +98,12 @@ module _ (z : Lane) (s : State) (L : Lawful z s) where
       by : (a : Option ℕ) → Node p ≡ head_word z.first L.ghost.path L.ghost.head a → p.count < 2 ^ 44
       by None e = let count = ap (λ (q : Place). q.count) (Rattle.core_model.proofs.Loads.same_node p _ e) in let made = L.counts in let all = all_within z s L in omega arith
       by (Some a) e = absurd (cc e)
+
+    pub announced_fits : (a n : ℕ) → s.memory.head ≡ Ann a n → n < 2 ^ 44
+    announced_fits a n is = by L.ghost.ann (sym is ∙ L.head.named) where
+      counted : (b m : ℕ) → Ann a n ≡ Ann b m → n ≡ m
+      counted b m e = cc e
+
+      by : (o : Option ℕ) → Ann a n ≡ head_word z.first L.ghost.path L.ghost.head o → n < 2 ^ 44
+      by None e = absurd (cc e)
+      by (Some b) e = let count = counted b (z.first + L.ghost.head) e in let made = L.counts in let all = all_within z s L in omega arith

@@ -64,6 +64,7 @@ pub fn counts_stay_in_range()
     ensures raised { (shape : Shape) (s : State) (c : ℕ) → Lawful (lane_of shape) s → CountsFit (s.callers c).turn }
     ensures tail { (shape : Shape) (s : State) → Lawful (lane_of shape) s → s.memory.tail.count < 2 ^ 44 }
     ensures head { (shape : Shape) (s : State) (p : Place) → Lawful (lane_of shape) s → s.memory.head ≡ Node p → p.count < 2 ^ 44 }
+    ensures announced { (shape : Shape) (s : State) (a n : ℕ) → Lawful (lane_of shape) s → s.memory.head ≡ Ann a n → n < 2 ^ 44 }
 {}
 
 /// The words of a lawful lane show the last queue of its history, also while an announcement stands in HEAD.

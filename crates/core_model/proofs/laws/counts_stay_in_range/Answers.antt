@@ -2,7 +2,7 @@ use Rattle.core_model.specs.Step.{target}
 use Rattle.core_model.specs.Lane.{lane_of}
 use Rattle.core_model.proofs.InRange.{is_word, counts_fit, shape_fits}
 use Rattle.core_model.proofs.Finds.{names_rows}
-use Rattle.core_model.proofs.Ends.{tail_fits, head_fits}
+use Rattle.core_model.proofs.Ends.{tail_fits, head_fits, announced_fits}
 use Rattle.core_model.proofs.laws.counts_stay_in_range.Goals as goal
 
 pub returns-clause-word : goal.returns-clause-word
@@ -19,3 +19,6 @@ returns-clause-head c = λ shape s p L is. head_fits (lane_of shape) s L (shape_
 
 pub returns-clause-found : goal.returns-clause-found
 returns-clause-found c = λ shape s who L. names_rows (lane_of shape) s L (shape_fits shape) (target (s.callers who).turn)
+
+pub returns-clause-announced : goal.returns-clause-announced
+returns-clause-announced c = λ shape s a n L is. announced_fits (lane_of shape) s L (shape_fits shape) a n is
