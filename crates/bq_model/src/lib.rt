@@ -4,8 +4,8 @@
 //! contracts see as lists, and `bounded` those with a capacity, as batches and their answers; `error` the
 //! refusals and `fault` the faults of a text; `source` and `sink` the two ends of the program, `memory_source` and
 //! `memory_sink` those over memory, `adapter` those over std's readers and writers; `plain_lane` the lane of one
-//! caller, `stored` how it keeps its history, and `book` the history that it leaves. The definitions stand in
-//! `specs/`, one notion a file.
+//! caller, `stored` how it keeps its history, and `book` the history that it leaves; `judge` tells whether answers are
+//! those of one thread. The definitions stand in `specs/`, one notion a file.
 #![tactic(auto)]
 
 mod adapter;
@@ -15,6 +15,7 @@ mod error;
 mod fault;
 mod group;
 mod items;
+mod judge;
 mod memory_sink;
 mod memory_source;
 mod op;
@@ -33,6 +34,7 @@ pub use error::{Failed, OutOfMemory, Refusal};
 pub use fault::{TextCause, TextFault, TextRefused};
 pub use group::Group;
 pub use items::{Bytes, Items, Numbers, Ops, Text, Texts};
+pub use judge::legal;
 pub use memory_sink::MemorySink;
 pub use memory_source::MemorySource;
 pub use op::{Answer, Op};
