@@ -1,3 +1,4 @@
 pub mod Histories
 pub mod Growing
 pub mod Values
+pub mod ComingLemmas
