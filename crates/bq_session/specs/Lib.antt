@@ -1,0 +1,5 @@
+-- What contracts say of sessions: futures and their tickets, and what an evaluation does.
+pub mod Futures
+pub mod Keys
+pub mod Session
+pub mod Outcome
