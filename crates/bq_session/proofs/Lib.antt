@@ -1,1 +1,5 @@
 pub mod Pending
+pub mod Names
+pub mod Kept
+pub mod Whole
+pub mod Evaluated

@@ -272,3 +272,24 @@ ArePending-kept answers first live = ArePending-none _ (λ key. ap place_of (get
   unplaced_kept : (o : Option Future) → place_of (restand (keeping answers first) o) ≡ None
   unplaced_kept None = refl
   unplaced_kept (Some future) = kept_place future.number future.standing
+
+-- a ticket's future stands in one way
+pub stands_once : (f : LiveFutures) (t : Ticket) (x y : Standing) → Stands f t x → Stands f t y → x ≡ y
+stands_once f t x y s r =
+    let same : Some (standing_so t.number x) ≡ Some (standing_so t.number y) = sym s.future ∙ r.future in
+    ap (λ (u : Future). u.standing) (some_is (standing_so t.number x) (standing_so t.number y) same) where
+  standing_so : ℕ → Standing → Future
+  standing_so number x = record { number = number; standing = x }
+
+-- without keys nothing is pending
+pub none_pending : (keys : List ℕ) (f : LiveFutures) (t : Ticket) → keys ≡ [] → ArePending keys f.live → IsPending f t → ⊥
+none_pending keys f t empty p (place, s) =
+    let at : slice_get keys place ≡ Some t.key = p.no_other place t.key (ap place_of s.future) in
+    let none : slice_get keys place ≡ None = ap (λ (ks : List ℕ). slice_get ks place) empty in
+    cc (at, none)
+
+pub kept_not_pending : (f : LiveFutures) (t : Ticket) (answer : Answer) (serial : ℕ) → Stands f t (Kept answer serial) → IsPending f t → ⊥
+kept_not_pending f t answer serial s (place, r) = cc (stands_once f t (Kept answer serial) (Pending place) s r)
+
+pub withdrawn_not_pending : (f : LiveFutures) (t : Ticket) → Stands f t Withdrawn → IsPending f t → ⊥
+withdrawn_not_pending f t s (place, r) = cc (stands_once f t Withdrawn (Pending place) s r)

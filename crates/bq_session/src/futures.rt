@@ -147,7 +147,13 @@ impl Futures {
         ensures pending { IsTrue result ↔ IsPending self.now ticket.now }
         ensures places { HavePlaces self.now.waiting self.now.live }
     {
-        !self.keys.is_empty() && matches!(self.standing(ticket), Some(Standing::Pending(_)))
+        if self.keys.is_empty() {
+            return false;
+        }
+        match self.standing(ticket) {
+            Some(Standing::Pending(_)) => true,
+            Some(Standing::Kept(_, _)) | Some(Standing::Withdrawn) | None => false,
+        }
     }
 
     /// Gives up a ticket whose future is not pending, and tells how that stood.

@@ -27,22 +27,14 @@ pub struct Session<L: Lane> {
 }
 
 impl<L: Lane> Model for Session<L> {
-    ghost use Rattle.std.specs.Prelude.{◌≡◌, ◌≤◌, length};
-    ghost use Rattle.bq_model.specs.Grows.{the_caller};
     ghost use Rattle.bq_session.specs.Session.{SessionState};
-    ghost use Rattle.bq_session.specs.Outcome.{KeepsAnswers};
+    ghost use Rattle.bq_session.specs.Whole.{IsWhole};
 
     ghost Value = { SessionState L.Pass };
 
     ghost view = { λ s. record { pass = s.pass; pending = s.pending.items; futures = s.futures } };
 
-    ghost invariant = { λ s. (length (L.callers s.pass) ≡ 1)
-        × (s.futures.caller ≡ the_caller (L.callers s.pass))
-        × (s.futures.batch ≤ (L.pass_shape s.pass).batch)
-        × (s.pending.capacity ≡ s.futures.batch)
-        × (s.answers.capacity ≡ s.futures.batch)
-        × (s.futures.waiting ≡ length s.pending.items)
-        × KeepsAnswers (L.seen s.pass) s.futures };
+    ghost invariant = { λ s. IsWhole (L.callers s.pass) (L.pass_shape s.pass).batch (L.seen s.pass) s.pending s.answers s.futures };
 }
 
 impl<L: Lane> Session<L> {
@@ -222,13 +214,10 @@ impl<L: Lane> Session<L> {
         ensures claims { IfOk result (λ outcome. ClaimsOwn outcome (L.seen self.new.pass) self.new.futures) }
         ensures keeps { KeepsAnswers (L.seen self.new.pass) self.new.futures }
     {
+        let lane = self.futures.lane();
+        let caller = self.futures.caller();
         match self.futures.spend(ticket) {
-            Standing::Kept(answer, serial) => Ok(Outcome::new(
-                self.futures.lane(),
-                self.futures.caller(),
-                serial,
-                answer,
-            )),
+            Standing::Kept(answer, serial) => Ok(Outcome::new(lane, caller, serial, answer)),
             Standing::Withdrawn => Err(EvalFault::Withdrawn),
             Standing::Pending(_) => unreachable!(),
         }
