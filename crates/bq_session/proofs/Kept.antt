@@ -1,5 +1,5 @@
 -- What a session keeps stays what the operations got, whatever is done to its futures.
-use Rattle.std.proofs.Common.{◌≡◌, ◌≢◌, ℕ, zero, suc, ◌+◌, ◌-◌, ◌<◌, ◌≤◌, ◌==◌, Bool, true, false, cond, List, [], ◌∷◌, ◌++◌, length, map, get_or, set, Option, Some, None, is_some, Result, Ok, Err, IfOk, refl, sym, ap, subst, ◌∙◌, arith, ◌⊎◌, inl, inr}
+use Rattle.std.proofs.Common.{◌≡◌, ℕ, ◌+◌, ◌-◌, ◌<◌, ◌≤◌, ◌==◌, Bool, true, false, cond, List, length, map, get_or, set, Option, Some, None, is_some, Result, Ok, Err, IfOk, refl, sym, ap, subst, ◌∙◌, arith, ◌⊎◌, inl, inr}
 use Rattle.std.proofs.lemmas.Bool.{cases_eq}
 use Rattle.std.proofs.lemmas.List.{get_or-set_same, get_or-set_other}
 use Rattle.std.proofs.Math.ListN.{get_or-map}
@@ -16,7 +16,7 @@ use Rattle.bq_session.specs.declared.ticket.Ticket.{Ticket}
 use Rattle.bq_session.specs.declared.claim.Outcome.{Outcome}
 use Rattle.bq_session.specs.Futures.{LiveFutures, under, Stands, IsIssued, place_of, restand, keeping, settled, withdrawing, last_withdrawn, spent, HavePlaces}
 use Rattle.bq_session.specs.Session.{made_by}
-use Rattle.bq_session.specs.Outcome.{KeepsAnswers, NamesDequeue, ClaimsOwn, outcome_of}
+use Rattle.bq_session.specs.Outcome.{KeepsAnswers, ClaimsOwn, outcome_of}
 use Rattle.bq_session.proofs.Pending.{within_live}
 use Rattle.bq_session.proofs.Names.{GotAnswer-saw_more, GotAnswer-grew, GotAnswer-made, serial_below}
 
@@ -40,7 +40,7 @@ KeepsAnswers-issued seen t old new issued k = KeepsAnswers-before seen old new (
   before key number serial answer e = elim (cases_eq key t.key) [
     | inl same ↦
         let pending : Some (standing_so t.number (Pending old.waiting)) ≡ Some (standing_so number (Kept answer serial)) =
-            sym issued.stands.future ∙ ap (under new.live) (sym same) ∙ e in
+        sym issued.stands.future ∙ ap (under new.live) (sym same) ∙ e in
         (let places : Some old.waiting ≡ None = ap place_of pending in cc places)
     | inr apart ↦ sym (issued.others key apart) ∙ e
   ]
@@ -63,7 +63,7 @@ withdrawing_kept last Withdrawn answer serial e = e
 pub KeepsAnswers-withdrawn : (seen : List Group) (f : LiveFutures) → KeepsAnswers seen f → KeepsAnswers seen (last_withdrawn f)
 KeepsAnswers-withdrawn seen f k = KeepsAnswers-before seen f (last_withdrawn f) refl
     (λ key number serial answer e. restand_kept (withdrawing (f.waiting - 1)) (withdrawing_kept (f.waiting - 1)) (under f.live key) number serial answer
-      (sym (get_or-map (restand (withdrawing (f.waiting - 1))) f.live key None) ∙ e)) k
+    (sym (get_or-map (restand (withdrawing (f.waiting - 1))) f.live key None) ∙ e)) k
 
 gone : (live : List (Option Future)) (key : ℕ) → is_some (under live key) ≡ true → under (set live key None) key ≡ None
 gone live key there = get_or-set_same live key None None (within_live live key there)
@@ -114,12 +114,14 @@ KeepsAnswers-settled ops answers old new f g places enough k = record {
       → KeptFrom answers (made_by old f.caller) (under f.live key) number serial answer
   from key number serial answer e = kept_from answers (made_by old f.caller) (under f.live key) number serial answer
       (sym (get_or-map (restand (keeping answers (made_by old f.caller))) f.live key None) ∙ e)
+
   got : (o : Option Future) (key : ℕ) → under f.live key ≡ o → (number serial : ℕ) (answer : Answer) → KeptFrom answers (made_by old f.caller) (under f.live key) number serial answer → GotAnswer new f.caller serial answer
   got o key is number serial answer (inl kept) = GotAnswer-grew old new f.caller serial ops answers answer g (k.got key number serial answer kept)
   got o key is number serial answer (inr pending) =
       let within : pending.0 < length ops = (let below = places.below key pending.0 pending.1 in omega arith) in
       subst (λ (n : ℕ). GotAnswer new f.caller n answer) pending.3
-        (subst (λ (a : Answer). GotAnswer new f.caller (made_by old f.caller + pending.0) a) pending.2 (GotAnswer-made f.caller ops answers old new pending.0 g within))
+      (subst (λ (a : Answer). GotAnswer new f.caller (made_by old f.caller + pending.0) a) pending.2 (GotAnswer-made f.caller ops answers old new pending.0 g within))
+
   apart : (key other m n serial : ℕ) (a b : Answer) → KeptFrom answers (made_by old f.caller) (under f.live key) m serial a → KeptFrom answers (made_by old f.caller) (under f.live other) n serial b → key ≡ other
   apart key other m n serial a b (inl x) (inl y) = k.apart key other m n serial a b x y
   apart key other m n serial a b (inl x) (inr y) = (let below = serial_below old f.caller serial a (k.got key m serial a x) in let e = y.3 in absurd (omega arith))
@@ -159,9 +161,9 @@ ClaimsOwn-made ops answers old new f place g places behind within k = by_answer 
     got = subst (λ (a : Answer). GotAnswer new f.caller (made_by old f.caller + place) a) is (GotAnswer-made f.caller ops answers old new place g within);
     gone = λ key number answer e. elim (kept_from answers (made_by old f.caller) (under f.live key) number (made_by old f.caller + place) answer
         (sym (get_or-map (restand (keeping answers (made_by old f.caller))) f.live key None) ∙ e)) [
-      | inl kept ↦ (let below = serial_below old f.caller (made_by old f.caller + place) answer (k.got key number (made_by old f.caller + place) answer kept) in absurd (omega arith))
-      | inr pending ↦ (let below = places.below key pending.0 pending.1 in let e = pending.3 in absurd (omega arith))
-    ];
+          | inl kept ↦ (let below = serial_below old f.caller (made_by old f.caller + place) answer (k.got key number (made_by old f.caller + place) answer kept) in absurd (omega arith))
+          | inr pending ↦ (let below = places.below key pending.0 pending.1 in let e = pending.3 in absurd (omega arith))
+        ];
   }
 
 -- the same, where the outcome is made of the ticket's future

@@ -3,3 +3,4 @@ pub mod Names
 pub mod Kept
 pub mod Whole
 pub mod Evaluated
+pub mod Faults

@@ -1,6 +1,6 @@
 -- Where the operations of a caller stand, and what they got.
-use Rattle.std.proofs.Common.{◌≡◌, ℕ, zero, suc, ◌+◌, ◌*◌, ◌<◌, ◌≤◌, ◌==◌, Bool, true, false, cond, Some, List, [], ◌∷◌, ◌++◌, length, map, filter, take, get_or, replicate, refl, sym, ap, subst, ◌∙◌, arith, ne_eqb, eq-eqb, length-append, append_assoc, count_by, inl, inr}
-use Rattle.std.specs.List.{slice_get, sum_by}
+use Rattle.std.proofs.Common.{◌≡◌, ℕ, zero, suc, ◌+◌, ◌*◌, ◌<◌, ◌≤◌, ◌==◌, Bool, false, cond, Some, List, [], ◌∷◌, ◌++◌, length, take, get_or, replicate, refl, sym, ap, subst, ◌∙◌, arith, ne_eqb, eq-eqb, length-append, append_assoc, count_by, inl, inr}
+use Rattle.std.specs.List.{slice_get}
 use Rattle.std.proofs.lemmas.Bool.{cases_eq}
 use Rattle.std.proofs.lemmas.Grind.{flat_map-append}
 use Rattle.std.proofs.lemmas.List.{length-replicate, take-append-le}
@@ -15,7 +15,7 @@ use Rattle.bq_model.specs.declared.group.Group.{Group}
 use Rattle.bq_model.specs.Queue.{queue_after}
 use Rattle.bq_model.specs.Replay.{answers_from, queue_from}
 use Rattle.bq_model.specs.History.{operations, answers_of, last_queue}
-use Rattle.bq_model.specs.Own.{mine, next_group, callers_of, IsAt, GotAnswer}
+use Rattle.bq_model.specs.Own.{mine, next_group, callers_of, GotAnswer}
 use Rattle.bq_model.specs.Grows.{Grew, SawMore}
 use Rattle.bq_model.proofs.Histories.{answers_from-append}
 use Rattle.bq_model.proofs.Growing.{operations-append, mine-append, mine-own, mine-other, others_around}
@@ -133,7 +133,7 @@ pub GotAnswer-grew : (old new : List Group) (c serial : ℕ) (ops : List Op) (an
     → GotAnswer old c serial answer → GotAnswer new c serial answer
 GotAnswer-grew old new c serial ops answers answer g got =
     subst (λ (h : List Group). GotAnswer h c serial answer) (sym (append_assoc old g.between (next_group old c ops ∷ g.after)) ∙ sym g.grown)
-      (GotAnswer-append old (g.between ++ next_group old c ops ∷ g.after) c serial answer got)
+    (GotAnswer-append old (g.between ++ next_group old c ops ∷ g.after) c serial answer got)
 
 -- operation k of a group got answer k
 got_own : (h after : List Group) (g : Group) (k : ℕ) → k < length g.ops
@@ -144,7 +144,7 @@ got_own h after g k within =
     let short : k ≤ length own = (let e = length-replicate (length g.ops) g.caller in omega (arith, e)) in
     let answers : List Answer = answers_from (last_queue h) g.ops in
     let here : answers_of (h ++ g ∷ after) ≡ answers_of h ++ (answers ++ answers_from (queue_from (last_queue h) g.ops) (operations after)) =
-        answers_of-append h (g ∷ after) ∙ ap (λ (found : List Answer). answers_of h ++ found) (answers_from-append (last_queue h) g.ops (operations after)) in
+    answers_of-append h (g ∷ after) ∙ ap (λ (found : List Answer). answers_of h ++ found) (answers_from-append (last_queue h) g.ops (operations after)) in
     let many : k < length answers = (let e = length-answers_from (last_queue h) g.ops in omega (arith, e)) in
     record {
       place = place;
@@ -169,13 +169,13 @@ pub GotAnswer-made : (c : ℕ) (ops : List Op) (answers : List Answer) (old new 
     → GotAnswer new c (made_by old c + k) (get_or answers k Done)
 GotAnswer-made c ops answers old new k g within =
     let same : made_by (old ++ g.between) c ≡ made_by old c =
-        ap (λ (gs : List Group). length (operations gs)) (mine-append old g.between c ∙ ap (λ (gs : List Group). mine old c ++ gs) (others_around c ops answers old new g).0)
-        ∙ ap (λ (gs : List Group). length (operations gs)) (nil (mine old c)) in
+    ap (λ (gs : List Group). length (operations gs)) (mine-append old g.between c ∙ ap (λ (gs : List Group). mine old c ++ gs) (others_around c ops answers old new g).0)
+    ∙ ap (λ (gs : List Group). length (operations gs)) (nil (mine old c)) in
     let got : GotAnswer ((old ++ g.between) ++ next_group old c ops ∷ g.after) c (made_by (old ++ g.between) c + k) (get_or (answers_from (last_queue (old ++ g.between)) ops) k Done) =
-        got_own (old ++ g.between) g.after (next_group old c ops) k within in
+    got_own (old ++ g.between) g.after (next_group old c ops) k within in
     subst (λ (h : List Group). GotAnswer h c (made_by old c + k) (get_or answers k Done)) (sym g.grown)
-      (subst (λ (found : List Answer). GotAnswer ((old ++ g.between) ++ next_group old c ops ∷ g.after) c (made_by old c + k) (get_or found k Done)) (sym g.answered)
-        (subst (λ (n : ℕ). GotAnswer ((old ++ g.between) ++ next_group old c ops ∷ g.after) c (n + k) (get_or (answers_from (last_queue (old ++ g.between)) ops) k Done)) same got)) where
-  nil : (gs : List Group) → gs ++ [] ≡ gs
-  nil [] = refl
-  nil (x ∷ gs) = ap (λ (ys : List Group). x ∷ ys) (nil gs)
+    (subst (λ (found : List Answer). GotAnswer ((old ++ g.between) ++ next_group old c ops ∷ g.after) c (made_by old c + k) (get_or found k Done)) (sym g.answered)
+    (subst (λ (n : ℕ). GotAnswer ((old ++ g.between) ++ next_group old c ops ∷ g.after) c (n + k) (get_or (answers_from (last_queue (old ++ g.between)) ops) k Done)) same got)) where
+      nil : (gs : List Group) → gs ++ [] ≡ gs
+      nil [] = refl
+      nil (x ∷ gs) = ap (λ (ys : List Group). x ∷ ys) (nil gs)

@@ -1,7 +1,7 @@
 -- Where the pending futures are found, and how they change.
-use Rattle.std.proofs.Common.{◌≡◌, ◌≢◌, ℕ, zero, suc, ◌+◌, ◌<◌, ◌≤◌, ◌==◌, eqb, ltb, not, Bool, true, false, cond, if◌then◌else◌, List, [], ◌∷◌, ◌++◌, length, map, get_or, set, Option, Some, None, is_some, count_by, refl, sym, ap, subst, ◌∙◌, arith, ◌⊎◌, inl, inr, eq-eqb, ne_eqb}
+use Rattle.std.proofs.Common.{◌≡◌, ◌≢◌, ℕ, zero, suc, ◌+◌, ◌<◌, ltb, Bool, true, cond, List, [], ◌∷◌, ◌++◌, length, map, get_or, set, Option, Some, None, is_some, refl, sym, ap, subst, ◌∙◌, arith, ◌⊎◌, inl, inr, eq-eqb, ne_eqb}
 use Rattle.std.specs.List.{slice_get}
-use Rattle.std.proofs.lemmas.Bool.{cases_eq, cases_lt, lt-ltb, ltb-true, le-ltb}
+use Rattle.std.proofs.lemmas.Bool.{cases_eq, cases_lt, lt-ltb, le-ltb}
 use Rattle.std.proofs.lemmas.List.{get_or-set_same, get_or-set_other}
 use Rattle.std.proofs.Math.ListN.{get_or-map}
 use Rattle.std.proofs.lemmas.Option.{slice_get_within}
@@ -278,8 +278,8 @@ pub stands_once : (f : LiveFutures) (t : Ticket) (x y : Standing) → Stands f t
 stands_once f t x y s r =
     let same : Some (standing_so t.number x) ≡ Some (standing_so t.number y) = sym s.future ∙ r.future in
     ap (λ (u : Future). u.standing) (some_is (standing_so t.number x) (standing_so t.number y) same) where
-  standing_so : ℕ → Standing → Future
-  standing_so number x = record { number = number; standing = x }
+      standing_so : ℕ → Standing → Future
+      standing_so number x = record { number = number; standing = x }
 
 -- without keys nothing is pending
 pub none_pending : (keys : List ℕ) (f : LiveFutures) (t : Ticket) → keys ≡ [] → ArePending keys f.live → IsPending f t → ⊥

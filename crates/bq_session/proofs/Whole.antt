@@ -1,5 +1,5 @@
 -- A session's parts agree still after a call on the lane.
-use Rattle.std.proofs.Common.{◌≡◌, ℕ, ◌+◌, ◌<◌, ◌≤◌, List, [], length, refl, sym, ap, subst, ◌∙◌, arith}
+use Rattle.std.proofs.Common.{◌≡◌, ℕ, ◌≤◌, List, [], length, sym, ap, subst, ◌∙◌, arith}
 use Rattle.bq_model.specs.declared.op.Op.{Op}
 use Rattle.bq_model.specs.declared.op.Answer.{Answer}
 use Rattle.bq_model.specs.declared.group.Group.{Group}
@@ -7,7 +7,6 @@ use Rattle.bq_model.specs.Bounded.{BoundedList}
 use Rattle.bq_model.specs.Grows.{the_caller, Grew, SawMore}
 use Rattle.bq_session.specs.Futures.{LiveFutures, settled, HavePlaces}
 use Rattle.bq_session.specs.Session.{made_by}
-use Rattle.bq_session.specs.Outcome.{KeepsAnswers}
 use Rattle.bq_session.specs.Whole.{IsWhole}
 use Rattle.bq_session.proofs.Kept.{KeepsAnswers-saw_more, KeepsAnswers-settled}
 

@@ -1,5 +1,5 @@
 -- The futures of a session: its deferred operations, as long as their tickets are live.
-use Rattle.std.specs.Prelude.{◌≡◌, ◌≢◌, ℕ, ◌+◌, ◌-◌, ◌<◌, ◌==◌, ◌%◌, ◌^◌, List, [], map, Option, Some, None, is_some, count_by, slice_index_or, slice_set, get_or, if◌then◌else◌}
+use Rattle.std.specs.Prelude.{◌≡◌, ◌≢◌, ℕ, ◌+◌, ◌-◌, ◌<◌, ◌==◌, ◌%◌, ◌^◌, List, map, Option, Some, None, is_some, count_by, slice_index_or, slice_set, get_or, if◌then◌else◌}
 use Rattle.bq_model.specs.declared.op.Answer.{Answer}
 use Rattle.bq_model.specs.declared.op.Answer.TheVariants.{Done}
 use Rattle.bq_session.specs.declared.future.Future.{Future}

@@ -4,3 +4,4 @@ pub mod Outcome
 pub mod Session
 pub mod Keys
 pub mod Whole
+pub mod Faults

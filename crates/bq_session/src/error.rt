@@ -39,6 +39,11 @@ pub enum PlainFault {
 }
 
 impl From<Refusal> for PlainFault {
+    ghost use Rattle.std.specs.Prelude.{◌≡◌};
+    ghost use Rattle.bq_session.specs.Faults.{plain_fault};
+
+    ghost from_gives = { λ refusal fault. fault ≡ plain_fault refusal };
+
     fn from(refusal: Refusal) -> Self {
         match refusal {
             Refusal::Spent => PlainFault::Spent,

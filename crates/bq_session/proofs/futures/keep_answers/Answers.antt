@@ -1,8 +1,6 @@
-use Rattle.std.proofs.Common.{rules, arith, ap, sym, subst, ◌≡◌, ◌∙◌, ℕ, length, map, get_or, set, List, Option, slice_index_or}
-use Rattle.std.specs.List.{slice_get}
+use Rattle.std.proofs.Common.{rules, arith, ap, ◌≡◌, ◌∙◌, ℕ, length, map}
 use Rattle.std.proofs.lemmas.Option.{slice_get-get_or}
-use Rattle.bq_session.specs.declared.future.Future.{Future}
-use Rattle.bq_session.specs.Futures.{under, restand, keeping}
+use Rattle.bq_session.specs.Futures.{restand}
 use Rattle.bq_session.proofs.Pending.{keeping_below, kept_none, kept_one_more, kept_all, live_while_kept}
 use Rattle.bq_session.proofs.futures.keep_answers.Goals as goal
 

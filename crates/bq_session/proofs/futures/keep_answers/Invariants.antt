@@ -1,4 +1,4 @@
-use Rattle.std.proofs.Common.{◌≡◌, ℕ, ◌+◌, ◌<◌, Bool, cond, if◌then◌else◌, map, length}
+use Rattle.std.proofs.Common.{◌≡◌, map}
 use Rattle.slab.specs.Slab.{slab_len}
 use Rattle.bq_session.specs.Futures.{restand}
 use Rattle.bq_session.proofs.Pending.{keeping_below}

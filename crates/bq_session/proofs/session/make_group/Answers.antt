@@ -1,4 +1,4 @@
-use Rattle.std.proofs.Common.{rules, arith, ap, sym, subst, ◌∙◌, length}
+use Rattle.std.proofs.Common.{arith, ap, length}
 use Rattle.bq_session.proofs.Names.{length-grew}
 use Rattle.bq_session.proofs.session.make_group.Goals as goal
 

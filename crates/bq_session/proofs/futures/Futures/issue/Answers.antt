@@ -1,4 +1,4 @@
-use Rattle.std.proofs.Common.{rules, arith, ap, sym, ◌∙◌, ◌≤◌, ◌≢◌, Some, subst, ℕ, ◌+◌}
+use Rattle.std.proofs.Common.{arith, ap, sym, ◌∙◌, ◌≤◌, ◌≢◌, Some, subst, ℕ}
 use Rattle.slab.specs.Slab.{slab_len}
 use Rattle.bq_session.specs.Futures.{live_count, place_of, LiveFutures}
 use Rattle.bq_session.proofs.Pending.{ArePending-issued}

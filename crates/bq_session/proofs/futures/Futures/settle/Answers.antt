@@ -1,5 +1,4 @@
-use Rattle.std.proofs.Common.{rules, arith, ap, sym, subst, ◌∙◌}
-use Rattle.bq_session.specs.Futures.{LiveFutures, HavePlaces}
+use Rattle.std.proofs.Common.{arith, ◌∙◌}
 use Rattle.bq_session.proofs.Pending.{ArePending-kept, HavePlaces-pending}
 use Rattle.bq_session.proofs.futures.Futures.settle.Goals as goal
 

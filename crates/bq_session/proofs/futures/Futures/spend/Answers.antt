@@ -1,5 +1,5 @@
-use Rattle.std.proofs.Common.{rules, arith, ap, sym, subst}
-use Rattle.bq_session.specs.Futures.{Stands, IsLive, IsPending, place_of, LiveFutures}
+use Rattle.std.proofs.Common.{arith, ap, sym, subst}
+use Rattle.bq_session.specs.Futures.{IsLive, IsPending, place_of, LiveFutures}
 use Rattle.bq_session.proofs.Pending.{ArePending-changed, no_place}
 use Rattle.bq_session.proofs.futures.Futures.spend.Goals as goal
 

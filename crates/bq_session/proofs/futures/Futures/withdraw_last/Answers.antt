@@ -1,7 +1,6 @@
-use Rattle.std.proofs.Common.{rules, arith, ap, sym, subst, ◌≡◌, ◌∙◌, List, [], ◌∷◌, ◌++◌, length, ℕ, ◌+◌, ◌-◌, map, Option, length-append}
-use Rattle.bq_session.specs.declared.future.Future.{Future}
+use Rattle.std.proofs.Common.{arith, ap, sym, subst, ◌≡◌, ◌∙◌, List, [], ◌∷◌, length, ℕ, ◌-◌, map, length-append}
 use Rattle.bq_session.specs.Keys.{ArePending}
-use Rattle.bq_session.specs.Futures.{LiveFutures, last_withdrawn, restand, withdrawing}
+use Rattle.bq_session.specs.Futures.{restand, withdrawing}
 use Rattle.bq_session.proofs.Pending.{ArePending-withdrawn, place_of_last, some_where_placed, withdrawn_alone}
 use Rattle.bq_session.proofs.futures.Futures.withdraw_last.Goals as goal
 

@@ -1,4 +1,4 @@
-use Rattle.std.proofs.Common.{rules, arith, ap, sym, subst, ◌∙◌, ◌≡◌, ◌≢◌, ◌≤◌, ◌+◌, length, length-append, [], ◌∷◌, ◌++◌}
+use Rattle.std.proofs.Common.{arith, ap, sym, ◌∙◌, ◌≡◌, ◌+◌, length, length-append, [], ◌∷◌}
 use Rattle.bq_session.specs.Futures.{LiveFutures}
 use Rattle.bq_session.proofs.Kept.{KeepsAnswers-issued}
 use Rattle.bq_session.proofs.session.Session.defer.Goals as goal

@@ -1,4 +1,4 @@
-use Rattle.std.proofs.Common.{rules, arith, ap, sym, subst, ◌∙◌, refl}
+use Rattle.std.proofs.Common.{sym, subst, refl}
 use Rattle.bq_session.specs.Futures.{IsLive}
 use Rattle.bq_session.specs.Session.{SessionState, IsEvaluated}
 use Rattle.bq_session.proofs.Evaluated.{Stands-evaluated, some_pending, IsMade-taken}
@@ -24,6 +24,6 @@ returns-clause-makes_what_is_pending g c place s = elim c.if-is_pending.branch [
   | then-is_pending+in-Ok w ↦
       let P : SessionState _ → Type 0 = λ m. IsEvaluated c.args.self.now.pending c.args.self.now.futures m.futures (g.L.Lane.seen c.args.self.now.pass) (g.L.Lane.seen m.pass) in
       IsMade-taken g.L.Lane.seen c.args.ticket place c.args.self.now c.if-is_pending.self c.take.new.self c.take.result (subst P (sym w.self-is) w.in-Ok.ensures.ok)
-        c.is_pending.ensures.places s c.take.ensures.spends c.take.ensures.kept
+      c.is_pending.ensures.places s c.take.ensures.spends c.take.ensures.kept
   | else-is_pending w ↦ cc (w.if-is_pending.ensures.pending.1 (place, s))
 ]

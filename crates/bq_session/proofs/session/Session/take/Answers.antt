@@ -1,5 +1,3 @@
-use Rattle.std.proofs.Common.{rules, arith, ap, sym, subst, ◌∙◌}
-use Rattle.bq_session.specs.Futures.{LiveFutures}
 use Rattle.bq_session.proofs.Kept.{KeepsAnswers-spent, ClaimsOwn-taken, ok_is, err_is}
 use Rattle.bq_session.proofs.session.Session.take.Goals as goal
 use Rattle.bq_session.proofs.session.Session.take.Goals.{in-Kept, in-Withdrawn}
@@ -22,7 +20,7 @@ pub returns-clause-claims : goal.returns-clause-claims
 returns-clause-claims g c = elim c.match-spend.branch [
   | in-Kept w ↦ ok_is _ _ w.new.result w.result-is
       (ClaimsOwn-taken _ c.self.inside.futures _ c.args.ticket _ _ w.in-Kept.serial w.in-Kept.answer w.new.result c.lane-lane.ensures c.caller-caller.ensures w.new.ensures
-        c.spend.ensures.spent w.in-Kept.ensures.stood c.self.invariant.keeps)
+      c.spend.ensures.spent w.in-Kept.ensures.stood c.self.invariant.keeps)
   | in-Withdrawn w ↦ err_is _ _ _ w.result-is
 ]
 
