@@ -14,8 +14,8 @@ use Rattle.bq_session.specs.declared.future.Standing.{Standing}
 use Rattle.bq_session.specs.declared.future.Standing.TheVariants.{Pending, Kept}
 use Rattle.bq_session.specs.declared.ticket.Ticket.{Ticket}
 use Rattle.bq_session.specs.Futures.{LiveFutures, Stands, IsPending, place_of, restand, keeping, settled, spent, HavePlaces}
-use Rattle.bq_session.specs.Session.{SessionState, made_by, IsEvaluated, IsMade, IsMadeWith}
-use Rattle.bq_session.specs.Outcome.{outcome_of, KeepsAnswers, ClaimsOwn}
+use Rattle.bq_session.specs.Session.{SessionState, IsEvaluated, IsMade, IsMadeWith}
+use Rattle.bq_session.specs.Outcome.{outcome_of, made_by, KeepsAnswers, ClaimsOwn}
 use Rattle.bq_session.proofs.Kept.{ok_is, ClaimsOwn-made}
 
 -- an evaluation changes how each live ticket stands as `keeping` says
@@ -75,12 +75,12 @@ IsMadeWith-made outcome op pending ops answers old new before after first lane c
     }
 
 pub ClaimsOwn-with : (outcome : Outcome) (op : Op) (pending : List Op) (old new : LiveFutures) (before after : List Group) → IsMadeWith outcome op pending old new before after
-    → HavePlaces old.waiting old.live → old.waiting ≡ length pending → KeepsAnswers before old → ClaimsOwn outcome after new
+    → HavePlaces old.waiting old.live → old.waiting ≡ length pending → KeepsAnswers before old → ClaimsOwn outcome before old after new
 ClaimsOwn-with outcome op pending old new before after m places waits k =
     let e = m.evaluated in
     let more : length (pending ++ op ∷ []) ≡ length pending + 1 = length-append pending (op ∷ []) in
     let behind : old.waiting ≤ length pending = omega arith in
     let within : length pending < length (pending ++ op ∷ []) = omega arith in
-    subst (λ (o : Outcome). ClaimsOwn o after new) (sym m.own)
-    (subst (λ (f : LiveFutures). ClaimsOwn (outcome_of old.lane old.caller (made_by before old.caller + length pending) (get_or e.answers (length pending) Done)) after f) (sym e.kept)
+    subst (λ (o : Outcome). ClaimsOwn o before old after new) (sym m.own)
+    (subst (λ (f : LiveFutures). ClaimsOwn (outcome_of old.lane old.caller (made_by before old.caller + length pending) (get_or e.answers (length pending) Done)) before old after f) (sym e.kept)
     (ClaimsOwn-made (pending ++ op ∷ []) e.answers before after old (length pending) e.made places behind within k))

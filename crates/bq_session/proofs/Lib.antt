@@ -4,3 +4,4 @@ pub mod Kept
 pub mod Whole
 pub mod Evaluated
 pub mod Faults
+pub mod Tickets

@@ -17,9 +17,9 @@ use Rattle.bq_model.specs.Replay.{answers_from, queue_from}
 use Rattle.bq_model.specs.History.{operations, answers_of, last_queue}
 use Rattle.bq_model.specs.Own.{mine, next_group, callers_of, GotAnswer}
 use Rattle.bq_model.specs.Grows.{Grew, SawMore}
-use Rattle.bq_model.proofs.Histories.{answers_from-append}
+use Rattle.bq_model.proofs.Histories.{answers_from-append, operations-push}
 use Rattle.bq_model.proofs.Growing.{operations-append, mine-append, mine-own, mine-other, others_around}
-use Rattle.bq_session.specs.Session.{made_by}
+use Rattle.bq_session.specs.Outcome.{made_by}
 
 pub length-answers_from : (q : List ℕ) (ops : List Op) → length (answers_from q ops) ≡ length ops
 length-answers_from q [] = refl
@@ -179,3 +179,8 @@ GotAnswer-made c ops answers old new k g within =
       nil : (gs : List Group) → gs ++ [] ≡ gs
       nil [] = refl
       nil (x ∷ gs) = ap (λ (ys : List Group). x ∷ ys) (nil gs)
+
+-- a group adds its operations to those that its caller has made
+pub made_by-grew : (c : ℕ) (ops : List Op) (answers : List Answer) (old new : List Group) → Grew c ops answers old new → made_by new c ≡ made_by old c + length ops
+made_by-grew c ops answers old new g =
+    ap (λ (gs : List Group). length (operations gs)) g.own ∙ ap length (operations-push (mine old c) (next_group old c ops)) ∙ length-append (operations (mine old c)) ops

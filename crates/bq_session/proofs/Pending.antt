@@ -23,7 +23,7 @@ front_is [] x k y e = cc e
 front_is (z ∷ xs) x zero y e = e
 front_is (z ∷ xs) x (suc k) y e = front_is xs x k y e
 
-front_or_last : {X : Type 0} (xs : List X) (x : X) (k : ℕ) (y : X) → slice_get (xs ++ x ∷ []) k ≡ Some y → (slice_get xs k ≡ Some y) ⊎ ((k ≡ length xs) × (y ≡ x))
+pub front_or_last : {X : Type 0} (xs : List X) (x : X) (k : ℕ) (y : X) → slice_get (xs ++ x ∷ []) k ≡ Some y → (slice_get xs k ≡ Some y) ⊎ ((k ≡ length xs) × (y ≡ x))
 front_or_last [] x zero y e = inr (refl, cc e)
 front_or_last [] x (suc k) y e = cc e
 front_or_last (z ∷ xs) x zero y e = inl e

@@ -6,7 +6,7 @@ use Rattle.bq_model.specs.declared.group.Group.{Group}
 use Rattle.bq_model.specs.Bounded.{BoundedList}
 use Rattle.bq_model.specs.Grows.{the_caller, Grew, SawMore}
 use Rattle.bq_session.specs.Futures.{LiveFutures, settled, HavePlaces}
-use Rattle.bq_session.specs.Session.{made_by}
+use Rattle.bq_session.specs.Outcome.{made_by}
 use Rattle.bq_session.specs.Whole.{IsWhole}
 use Rattle.bq_session.proofs.Kept.{KeepsAnswers-saw_more, KeepsAnswers-settled}
 

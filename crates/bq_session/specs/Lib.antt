@@ -2,6 +2,7 @@
 pub mod Futures
 pub mod Outcome
 pub mod Session
+pub mod Tickets
 pub mod Keys
 pub mod Whole
 pub mod Faults

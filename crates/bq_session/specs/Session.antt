@@ -4,15 +4,13 @@ use Rattle.bq_model.specs.declared.op.Op.{Op}
 use Rattle.bq_model.specs.declared.op.Answer.{Answer}
 use Rattle.bq_model.specs.declared.op.Answer.TheVariants.{Done}
 use Rattle.bq_model.specs.declared.group.Group.{Group}
-use Rattle.bq_model.specs.History.{operations}
-use Rattle.bq_model.specs.Own.{mine}
 use Rattle.bq_model.specs.Grows.{Grew}
 use Rattle.bq_session.specs.declared.ticket.Ticket.{Ticket}
 use Rattle.bq_session.specs.declared.claim.Outcome.{Outcome}
 use Rattle.bq_session.specs.declared.error.EvalFault.{EvalFault}
 use Rattle.bq_session.specs.declared.error.EvalFault.TheVariants as fault
 use Rattle.bq_session.specs.Futures.{LiveFutures, settled, spent}
-use Rattle.bq_session.specs.Outcome.{outcome_of}
+use Rattle.bq_session.specs.Outcome.{outcome_of, made_by}
 
 pub record SessionState (Pass : Type 0) : Type 0 where
   -- how its caller stands with the lane
@@ -21,10 +19,6 @@ pub record SessionState (Pass : Type 0) : Type 0 where
   pub pending : List Op
   -- the futures of the live tickets; a pending one is that of the pending operation at its place
   pub futures : LiveFutures
-
--- how many operations the caller has made
-abbrev pub made_by : List Group → ℕ → ℕ
-made_by seen c = length (operations (mine seen c))
 
 -- These operations were made as one group, and each pending future keeps its own answer.
 pub record IsEvaluated (ops : List Op) (old new : LiveFutures) (before after : List Group) : Type 0 where

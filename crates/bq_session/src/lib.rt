@@ -5,10 +5,12 @@ mod claim;
 mod error;
 mod future;
 mod futures;
+mod laws;
 mod session;
 mod ticket;
 
 pub use claim::{Claim, Outcome};
 pub use error::{EvalFault, PlainFault, Refused};
+pub use laws::what_was_given_stays_given;
 pub use session::Session;
 pub use ticket::Ticket;

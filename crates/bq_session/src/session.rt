@@ -153,7 +153,7 @@ impl<L: Lane> Session<L> {
         ensures ticket_comes_back { IfErr result (λ fault. GivesBack fault ticket) }
         ensures spent { IsErrOf result (EvalFault.Spent ticket) ↔ (IsPending self.old.futures ticket × PassesAllowance (L.lane_shape lane.now) (L.seen self.old.pass) self.old.futures.caller self.old.pending) }
         ensures full { IsErrOf result (EvalFault.Full ticket) → IsPending self.old.futures ticket × AtSomePoint (λ point. L.may_fill (L.lane_shape lane.now) point self.old.futures.caller self.old.pending) (L.seen self.old.pass) (L.seen self.new.pass) }
-        ensures claims { IfOk result (λ outcome. ClaimsOwn outcome (L.seen self.new.pass) self.new.futures) }
+        ensures claims { IfOk result (λ outcome. ClaimsOwn outcome (L.seen self.old.pass) self.old.futures (L.seen self.new.pass) self.new.futures) }
         ensures keeps { KeepsAnswers (L.seen self.new.pass) self.new.futures }
         ensures pass_stays { (L.pass_identity self.new.pass ≡ L.pass_identity self.old.pass) × (L.pass_shape self.new.pass ≡ L.pass_shape self.old.pass) × (L.callers self.new.pass ≡ L.callers self.old.pass) }
     {
@@ -211,7 +211,7 @@ impl<L: Lane> Session<L> {
         ensures no_other_fault { IfErr result (λ fault. fault ≡ EvalFault.Withdrawn) }
         ensures spends { self.new ≡ record self.old { futures = spent ticket.key self.old.futures } }
         ensures counted { live_count self.new.futures + 1 ≡ live_count self.old.futures }
-        ensures claims { IfOk result (λ outcome. ClaimsOwn outcome (L.seen self.new.pass) self.new.futures) }
+        ensures claims { IfOk result (λ outcome. ClaimsOwn outcome (L.seen self.old.pass) self.old.futures (L.seen self.new.pass) self.new.futures) }
         ensures keeps { KeepsAnswers (L.seen self.new.pass) self.new.futures }
     {
         let lane = self.futures.lane();
@@ -256,7 +256,7 @@ impl<L: Lane> Session<L> {
             ↔ ((length self.old.pending < self.old.futures.batch) × PassesAllowance (L.lane_shape lane.now) (L.seen self.old.pass) self.old.futures.caller (self.old.pending ++ Op.Deq ∷ [])) }
         ensures full { IsErrOf result PlainFault.Full
             → AtSomePoint (λ point. L.may_fill (L.lane_shape lane.now) point self.old.futures.caller (self.old.pending ++ Op.Deq ∷ [])) (L.seen self.old.pass) (L.seen self.new.pass) }
-        ensures claims { IfOk result (λ outcome. ClaimsOwn outcome (L.seen self.new.pass) self.new.futures) }
+        ensures claims { IfOk result (λ outcome. ClaimsOwn outcome (L.seen self.old.pass) self.old.futures (L.seen self.new.pass) self.new.futures) }
         ensures keeps { KeepsAnswers (L.seen self.new.pass) self.new.futures }
         ensures pass_stays { (L.pass_identity self.new.pass ≡ L.pass_identity self.old.pass) × (L.pass_shape self.new.pass ≡ L.pass_shape self.old.pass) × (L.callers self.new.pass ≡ L.callers self.old.pass) }
     {
@@ -276,7 +276,7 @@ impl<L: Lane> Session<L> {
             ↔ ((length self.old.pending < self.old.futures.batch) × PassesAllowance (L.lane_shape lane.now) (L.seen self.old.pass) self.old.futures.caller (self.old.pending ++ op ∷ [])) }
         ensures full { IsErrOf result PlainFault.Full
             → AtSomePoint (λ point. L.may_fill (L.lane_shape lane.now) point self.old.futures.caller (self.old.pending ++ op ∷ [])) (L.seen self.old.pass) (L.seen self.new.pass) }
-        ensures claims { IfOk result (λ outcome. ClaimsOwn outcome (L.seen self.new.pass) self.new.futures) }
+        ensures claims { IfOk result (λ outcome. ClaimsOwn outcome (L.seen self.old.pass) self.old.futures (L.seen self.new.pass) self.new.futures) }
         ensures keeps { KeepsAnswers (L.seen self.new.pass) self.new.futures }
         ensures pass_stays { (L.pass_identity self.new.pass ≡ L.pass_identity self.old.pass) × (L.pass_shape self.new.pass ≡ L.pass_shape self.old.pass) × (L.callers self.new.pass ≡ L.callers self.old.pass) }
     {
@@ -338,7 +338,8 @@ impl<L: Lane> Session<L> {
 }
 
 ghost use Rattle.bq_session.specs.Futures.{live_count, HavePlaces, settled};
-ghost use Rattle.bq_session.specs.Session.{IsEvaluated, made_by};
+ghost use Rattle.bq_session.specs.Session.{IsEvaluated};
+ghost use Rattle.bq_session.specs.Outcome.{made_by};
 
 // Makes these operations as one group, the first of which belong to the pending futures. It gives the serial of the
 // first of them.

@@ -1,3 +1,6 @@
+use Rattle.std.proofs.Common.{subst}
+use Rattle.bq_session.specs.Session.{SessionState}
+use Rattle.bq_session.specs.Outcome.{ClaimsOwn}
 use Rattle.bq_session.proofs.Kept.{KeepsAnswers-spent, ClaimsOwn-taken, ok_is, err_is}
 use Rattle.bq_session.proofs.session.Session.take.Goals as goal
 use Rattle.bq_session.proofs.session.Session.take.Goals.{in-Kept, in-Withdrawn}
@@ -18,9 +21,11 @@ invariant_of-self g c =
 
 pub returns-clause-claims : goal.returns-clause-claims
 returns-clause-claims g c = elim c.match-spend.branch [
-  | in-Kept w ↦ ok_is _ _ w.new.result w.result-is
+  | in-Kept w ↦
+      let P : SessionState _ → Type 0 = λ s. ClaimsOwn w.new.result (g.L.Lane.seen s.pass) s.futures (g.L.Lane.seen c.self.inside.pass) c.spend.new.self in
+      ok_is _ _ w.new.result w.result-is (subst P c.self.view_is
       (ClaimsOwn-taken _ c.self.inside.futures _ c.args.ticket _ _ w.in-Kept.serial w.in-Kept.answer w.new.result c.lane-lane.ensures c.caller-caller.ensures w.new.ensures
-      c.spend.ensures.spent w.in-Kept.ensures.stood c.self.invariant.keeps)
+      c.spend.ensures.spent w.in-Kept.ensures.stood c.self.invariant.keeps))
   | in-Withdrawn w ↦ err_is _ _ _ w.result-is
 ]
 
