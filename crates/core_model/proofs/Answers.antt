@@ -18,14 +18,17 @@ use Rattle.word_rows.specs.declared.location.AnnField.TheVariants as field
 use Rattle.word_rows.specs.declared.location.Location.TheVariants.{Link, Value, AnnWord}
 use Rattle.word_rows.specs.declared.content.Content.TheVariants.{OfLink, OfValue, OfOldTail}
 use Rattle.core_model.specs.declared.turn.Help.{Help}
-use Rattle.core_model.specs.declared.turn.Turn.TheVariants.{AnswerTail, AnswerLink, AnswerValue}
+use Rattle.core_model.specs.declared.turn.Turn.TheVariants as turn
+use Rattle.core_model.specs.declared.turn.AnswerPoint.TheVariants as answer
 use Rattle.core_model.specs.Functions.{put, run}
 use Rattle.core_model.specs.Lane.{Lane}
 use Rattle.core_model.specs.Batches.{tally, gets, paired}
-use Rattle.core_model.specs.State.{Memory, Caller, State, write}
-use Rattle.core_model.specs.Step.{own_group, ended, turned_with, before_it, reads_on, step_with, step_at}
+use Rattle.core_model.specs.State.{Memory, Caller, State, write, own_group}
+use Rattle.core_model.specs.Fact.{landed_is, has_read, is_reading}
+use Rattle.core_model.specs.Help.{before_it}
+use Rattle.core_model.specs.Step.{ended, turned_with, reads_on, step_with, step_at}
+use Rattle.core_model.specs.Facts.{Landed, Holds, AtTurn}
 use Rattle.core_model.specs.Ghost.{Ghost, joint}
-use Rattle.core_model.specs.Facts.{Landed, landed_is, has_read, is_reading, Holds, Each, turn_facts}
 use Rattle.core_model.specs.Lawful.{Lawful}
 use Rattle.core_model.proofs.Puts.{run_last}
 use Rattle.core_model.proofs.Stays.{world, some_none}
@@ -68,83 +71,83 @@ module _ (z : Lane) (s : State) (L : Lawful z s) (c : ℕ) where
   -- the owner reads on, or its command ends
   on_read : (m r l : ℕ) (vs : List ℕ) (memory : Memory) → memory ≡ s.memory → Holds z (world s L.ghost) c (landed_is true) → Holds z (world s L.ghost) c (has_read (s.callers c).started_at (own_group c (s.callers c)) m vs l r)
       → Lawful z (changed s c memory [] (reads_on (length (s.history ++ [])) c (s.callers c) m r l vs))
-  on_read m r zero vs memory is on (a, i, d, R, x, m_is, sum, row, vals) =
+  on_read m r zero vs memory is on rd =
       subst (λ (y : Memory × List Group). Lawful z record { memory = y.0; history = y.1; callers = put s.callers c (ended (length y.1) c me (paired me.ops m vs)) }) (λ k. (sym is k, sym (append-nil s.history) k))
-      (finishes z s L c (paired me.ops m vs) on.0 on.1 (record { before = R.pre; behind = R.post; place = R.stands; right = read_right a i m vs R x m_is sum vals }) R.since_start)
+      (finishes z s L c (paired me.ops m vs) on.0 on.1 (record { before = rd.landed.pre; behind = rd.landed.post; place = rd.landed.stands; right = read_right rd.ann rd.place m vs rd.landed rd.read rd.queued rd.left rd.values }) rd.landed.since_start)
   on_read m r (suc l) vs memory is on rd =
-      subst (λ (y : Memory × List Group). Lawful z record { memory = y.0; history = y.1; callers = put s.callers c (turned_with me (AnswerLink m r l) vs) }) (λ k. (sym is k, sym (append-nil s.history) k))
-      (turns_with z s L c (AnswerLink m r l) vs on.1 (on, (rd, tt)))
+      subst (λ (y : Memory × List Group). Lawful z record { memory = y.0; history = y.1; callers = put s.callers c (turned_with me (turn.Answer (answer.LoadLink m r l)) vs) }) (λ k. (sym is k, sym (append-nil s.history) k))
+      (turns_with z s L c (turn.Answer (answer.LoadLink m r l)) vs on.1 (record { call = (on, tt); here = (rd, tt) }))
 
   -- OldTail tells how many values were queued before the batch, and none is read yet
-  module _ (h : Help) (q : Place) (at_q : s.memory.old_tail h.ann ≡ Some q) (f : Each z (world s L.ghost) c (turn_facts z c (s.callers c) (AnswerTail h))) where
+  module _ (h : Help) (q : Place) (at_q : s.memory.old_tail h.ann ≡ Some q) (f : AtTurn z (world s L.ghost) c (s.callers c) (turn.Answer (answer.LoadOldTail h))) where
     abbrev i : ℕ
-    i = f.1.1.0.0
+    i = f.here.1.0.0
 
-    landed : (L.ghost.landed c ≡ true) × Landed z (world s L.ghost) h.ann f.1.1.0.0 (s.callers c).started_at (own_group c (s.callers c))
-    landed = f.1.1.1.0.2 f.1.1.0.0 f.1.1.0.1
+    landed : (L.ghost.landed c ≡ true) × Landed z (world s L.ghost) h.ann f.here.1.0.0 (s.callers c).started_at (own_group c (s.callers c))
+    landed = f.here.1.1.0.2 f.here.1.0.0 f.here.1.0.1
 
-    m_is : before_it h q ≡ f.1.1.0.0 - landed.1.dummy
-    m_is = let R = landed.1 in let qc = ap (λ (p : Place). p.count) (L.announced.recorded h.ann f.1.1.0.0 q f.1.1.0.1 at_q) in let hc = ap (λ (p : Place). p.count) (sym (f.1.0.2 (omega arith)) ∙ R.old_head) in omega arith
+    m_is : before_it h q ≡ f.here.1.0.0 - landed.1.dummy
+    m_is = let R = landed.1 in let qc = ap (λ (p : Place). p.count) (L.announced.recorded h.ann f.here.1.0.0 q f.here.1.0.1 at_q) in let hc = ap (λ (p : Place). p.count) (sym (f.here.0.old_head (omega arith)) ∙ R.old_head) in omega arith
 
     none_read : Holds z (world s L.ghost) c (has_read (s.callers c).started_at (own_group c (s.callers c)) (before_it h q) [] (gets h.counts (before_it h q)) h.old_head.row)
-    none_read = let R = landed.1 in (
-      h.ann,
-      f.1.1.0.0,
-      f.1.1.0.1,
-      R,
-      0,
-      m_is,
-      (let e : 0 + gets h.counts (before_it h q) ≡ gets h.counts (before_it h q) = omega arith in e) ∙ ap (λ (k : BatchCounts). gets k (before_it h q)) (sym (f.1.0.5 (omega arith))),
-      ap G.path (let e : R.dummy + 0 ≡ R.dummy = omega arith in e) ∙ ap (λ (p : Place). p.row) (sym R.old_head ∙ f.1.0.2 (omega arith)),
-      refl,
-    )
+    none_read = let R = landed.1 in record {
+      ann = h.ann;
+      place = f.here.1.0.0;
+      is_decided = f.here.1.0.1;
+      landed = R;
+      read = 0;
+      queued = m_is;
+      left = (let e : 0 + gets h.counts (before_it h q) ≡ gets h.counts (before_it h q) = omega arith in e) ∙ ap (λ (k : BatchCounts). gets k (before_it h q)) (sym (f.here.0.counts (omega arith)));
+      last_row = ap G.path (let e : R.dummy + 0 ≡ R.dummy = omega arith in e) ∙ ap (λ (p : Place). p.row) (sym R.old_head ∙ f.here.0.old_head (omega arith));
+      values = refl;
+    }
 
-  tail_loaded : (h : Help) (x : Option Place) → s.memory.old_tail h.ann ≡ x → Each z (world s L.ghost) c (turn_facts z c (s.callers c) (AnswerTail h)) → Lawful z (step_with z s c (AnswerTail h) (OfOldTail x))
-  tail_loaded h None at_none f = absurd (some_none (sym f.1.1.0.2.1 ∙ at_none))
+  tail_loaded : (h : Help) (x : Option Place) → s.memory.old_tail h.ann ≡ x → AtTurn z (world s L.ghost) c (s.callers c) (turn.Answer (answer.LoadOldTail h)) → Lawful z (step_with z s c (turn.Answer (answer.LoadOldTail h)) (OfOldTail x))
+  tail_loaded h None at_none f = absurd (some_none (sym f.here.1.0.2.1 ∙ at_none))
   tail_loaded h (Some q) at_q f = on_read (before_it h q) h.old_head.row (gets h.counts (before_it h q)) [] (write s.memory (AnnWord h.ann field.OldTail) (OfOldTail (Some q)))
-      (ap (write s.memory (AnnWord h.ann field.OldTail)) (ap OfOldTail (sym at_q)) ∙ write_read s.memory (AnnWord h.ann field.OldTail)) f.0 (none_read h q at_q f)
+      (ap (write s.memory (AnnWord h.ann field.OldTail)) (ap OfOldTail (sym at_q)) ∙ write_read s.memory (AnnWord h.ann field.OldTail)) f.call.0 (none_read h q at_q f)
 
-  pub keeps_answer_tail : (h : Help) → (s.callers c).turn ≡ AnswerTail h → Lawful z (step_at z s c (AnswerTail h))
-  keeps_answer_tail h is = tail_loaded h (s.memory.old_tail h.ann) refl (known z s L c (AnswerTail h) is)
+  pub keeps_answer_tail : (h : Help) → (s.callers c).turn ≡ turn.Answer (answer.LoadOldTail h) → Lawful z (step_at z s c (turn.Answer (answer.LoadOldTail h)))
+  keeps_answer_tail h is = tail_loaded h (s.memory.old_tail h.ann) refl (known z s L c (turn.Answer (answer.LoadOldTail h)) is)
 
   -- the link of a row that was read names the next one
   next_row : (m r l n : ℕ) → ((b : Bool) (x : ℕ) → joint b x ≡ s.memory.link r → x ≡ n) → Holds z (world s L.ghost) c (has_read (s.callers c).started_at (own_group c (s.callers c)) m (s.callers c).values (suc l) r)
       → Holds z (world s L.ghost) c (is_reading (s.callers c).started_at (own_group c (s.callers c)) m (s.callers c).values l n)
-  next_row m r l n names (a, i, d, R, x, m_is, sum, row, vals) = let all : gets (s.memory.said a).counts m ≡ gets (s.memory.said a).counts (i - R.dummy) = ap (gets (s.memory.said a).counts) m_is in let e = sum in
-      let here = R.rows x (omega arith) in let next = R.rows (suc x) (omega arith) in let inside = next.0 in
-      (a, i, d, R, x, m_is, sum, names (G.chained (R.dummy + x)) (G.path (suc (R.dummy + x))) (sym (here.3.1 (omega arith)) ∙ ap s.memory.link row), vals)
+  next_row m r l n names rd = let R = rd.landed in let all : gets (s.memory.said rd.ann).counts m ≡ gets (s.memory.said rd.ann).counts (rd.place - R.dummy) = ap (gets (s.memory.said rd.ann).counts) rd.queued in let e = rd.left in
+      let here = R.rows rd.read (omega arith) in let next = R.rows (suc rd.read) (omega arith) in let inside = next.0 in
+      (rd.ann, rd.place, rd.is_decided, R, rd.read, rd.queued, rd.left, names (G.chained (R.dummy + rd.read)) (G.path (suc (R.dummy + rd.read))) (sym (here.3.1 (omega arith)) ∙ ap s.memory.link rd.last_row), rd.values)
 
-  link_read : (m r l : ℕ) (x : LinkWord) → s.memory.link r ≡ x → Each z (world s L.ghost) c (turn_facts z c (s.callers c) (AnswerLink m r l)) → Lawful z (step_with z s c (AnswerLink m r l) (OfLink x))
-  link_read m r l Nil is f = quiet z s L c (AnswerLink m r l) (Link r) (OfLink Nil) (ap OfLink is) f
-  link_read m r l Shut is f = quiet z s L c (AnswerLink m r l) (Link r) (OfLink Shut) (ap OfLink is) f
-  link_read m r l (Single n) is (on, (rd, _)) = quiet z s L c (AnswerValue m n l) (Link r) (OfLink (Single n)) (ap OfLink is) (on, (next_row m r l n (λ b x e. names b x (e ∙ is)) rd, tt)) where
+  link_read : (m r l : ℕ) (x : LinkWord) → s.memory.link r ≡ x → AtTurn z (world s L.ghost) c (s.callers c) (turn.Answer (answer.LoadLink m r l)) → Lawful z (step_with z s c (turn.Answer (answer.LoadLink m r l)) (OfLink x))
+  link_read m r l Nil is f = quiet z s L c (turn.Answer (answer.LoadLink m r l)) (Link r) (OfLink Nil) (ap OfLink is) f
+  link_read m r l Shut is f = quiet z s L c (turn.Answer (answer.LoadLink m r l)) (Link r) (OfLink Shut) (ap OfLink is) f
+  link_read m r l (Single n) is f = quiet z s L c (turn.Answer (answer.LoadValue m n l)) (Link r) (OfLink (Single n)) (ap OfLink is) (record { call = f.call; here = (next_row m r l n (λ b x e. names b x (e ∙ is)) f.here.0, tt) }) where
     names : (b : Bool) (x : ℕ) → joint b x ≡ Single n → x ≡ n
     names true x e = absurd (cc e)
     names false x e = cc e
-  link_read m r l (Chain n) is (on, (rd, _)) = quiet z s L c (AnswerValue m n l) (Link r) (OfLink (Chain n)) (ap OfLink is) (on, (next_row m r l n (λ b x e. names b x (e ∙ is)) rd, tt)) where
+  link_read m r l (Chain n) is f = quiet z s L c (turn.Answer (answer.LoadValue m n l)) (Link r) (OfLink (Chain n)) (ap OfLink is) (record { call = f.call; here = (next_row m r l n (λ b x e. names b x (e ∙ is)) f.here.0, tt) }) where
     names : (b : Bool) (x : ℕ) → joint b x ≡ Chain n → x ≡ n
     names true x e = cc e
     names false x e = absurd (cc e)
 
-  pub keeps_answer_link : (m r l : ℕ) → (s.callers c).turn ≡ AnswerLink m r l → Lawful z (step_at z s c (AnswerLink m r l))
-  keeps_answer_link m r l is = link_read m r l (s.memory.link r) refl (known z s L c (AnswerLink m r l) is)
+  pub keeps_answer_link : (m r l : ℕ) → (s.callers c).turn ≡ turn.Answer (answer.LoadLink m r l) → Lawful z (step_at z s c (turn.Answer (answer.LoadLink m r l)))
+  keeps_answer_link m r l is = link_read m r l (s.memory.link r) refl (known z s L c (turn.Answer (answer.LoadLink m r l)) is)
 
   -- one value more
   value_read : (m r l : ℕ) → Holds z (world s L.ghost) c (is_reading (s.callers c).started_at (own_group c (s.callers c)) m (s.callers c).values l r)
       → Holds z (world s L.ghost) c (has_read (s.callers c).started_at (own_group c (s.callers c)) m ((s.callers c).values ++ s.memory.value r ∷ []) l r)
-  value_read m r l (a, i, d, R, x, m_is, sum, row, vals) = (
-    a,
-    i,
-    d,
-    R,
-    suc x,
-    m_is,
-    (let e : suc x + l ≡ x + suc l = omega arith in e) ∙ sum,
-    ap G.path (let e : R.dummy + suc x ≡ suc (R.dummy + x) = omega arith in e) ∙ row,
-    (λ k. vals k ++ s.memory.value (sym row k) ∷ []) ∙ (ap (λ (y : ℕ). run (λ j. s.memory.value (G.path j)) (suc R.dummy) x ++ s.memory.value (G.path y) ∷ []) (let e : suc (R.dummy + x) ≡ suc R.dummy + x = omega arith in e)
-        ∙ sym (run_last (λ j. s.memory.value (G.path j)) (suc R.dummy) x)),
-  )
+  value_read m r l (a, i, d, R, x, m_is, sum, row, vals) = record {
+    ann = a;
+    place = i;
+    is_decided = d;
+    landed = R;
+    read = suc x;
+    queued = m_is;
+    left = (let e : suc x + l ≡ x + suc l = omega arith in e) ∙ sum;
+    last_row = ap G.path (let e : R.dummy + suc x ≡ suc (R.dummy + x) = omega arith in e) ∙ row;
+    values = (λ k. vals k ++ s.memory.value (sym row k) ∷ []) ∙ (ap (λ (y : ℕ). run (λ j. s.memory.value (G.path j)) (suc R.dummy) x ++ s.memory.value (G.path y) ∷ []) (let e : suc (R.dummy + x) ≡ suc R.dummy + x = omega arith in e)
+        ∙ sym (run_last (λ j. s.memory.value (G.path j)) (suc R.dummy) x));
+  }
 
-  pub keeps_answer_value : (m r l : ℕ) → (s.callers c).turn ≡ AnswerValue m r l → Lawful z (step_at z s c (AnswerValue m r l))
-  keeps_answer_value m r l is = let f = known z s L c (AnswerValue m r l) is in
-      on_read m r l (me.values ++ s.memory.value r ∷ []) (write s.memory (Value r) (OfValue (s.memory.value r))) (write_read s.memory (Value r)) f.0 (value_read m r l f.1.0)
+  pub keeps_answer_value : (m r l : ℕ) → (s.callers c).turn ≡ turn.Answer (answer.LoadValue m r l) → Lawful z (step_at z s c (turn.Answer (answer.LoadValue m r l)))
+  keeps_answer_value m r l is = let f = known z s L c (turn.Answer (answer.LoadValue m r l)) is in
+      on_read m r l (me.values ++ s.memory.value r ∷ []) (write s.memory (Value r) (OfValue (s.memory.value r))) (write_read s.memory (Value r)) f.call.0 (value_read m r l f.here.0)

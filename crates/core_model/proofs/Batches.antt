@@ -21,19 +21,22 @@ use Rattle.word_rows.specs.declared.location.AnnField.TheVariants as field
 use Rattle.core_model.specs.declared.turn.Notice.{Notice}
 use Rattle.core_model.specs.declared.turn.Draft.{Draft}
 use Rattle.core_model.specs.declared.turn.Turn.{Turn}
-use Rattle.core_model.specs.declared.turn.Turn.TheVariants.{BatchValue, BatchChain, BatchField, BatchHead, Install}
+use Rattle.core_model.specs.declared.turn.Turn.TheVariants as turn
+use Rattle.core_model.specs.declared.turn.BatchPoint.TheVariants as batch
 use Rattle.core_model.specs.Functions.{put, run}
 use Rattle.core_model.specs.Lane.{Lane, item}
 use Rattle.core_model.specs.Batches.{owner_of}
-use Rattle.core_model.specs.State.{Memory, Caller, command, State}
-use Rattle.core_model.specs.Step.{turned, step_at}
+use Rattle.core_model.specs.State.{Memory, Caller, State}
+use Rattle.core_model.specs.Fact.{fills}
+use Rattle.core_model.specs.Step.{followed, turned, step_at}
+use Rattle.core_model.specs.Facts.{AllAgree, stored_before, Holds, AtTurn}
+use Rattle.core_model.specs.declared.course.Course.TheVariants.{GoesOn, Fills}
 use Rattle.core_model.specs.Ghost.{unused, waiting, decided, Ghost, World, places, at}
 use Rattle.core_model.specs.Kept.{Kept}
-use Rattle.core_model.specs.Facts.{AllAgree, stored_before, fills, Holds, Each, batch_facts, turn_facts}
 use Rattle.core_model.specs.Lawful.{shown_queue, LinksIn, Bound, Standing, Announced, Told, Pending, Lawful}
 use Rattle.core_model.proofs.Puts.{put_here, put_else, run_same}
 use Rattle.core_model.proofs.Stays.{world, unused_waits, unused_decides, some_none, anns_same, anns_moved, Grows, owns_stays}
-use Rattle.core_model.proofs.Keeps.{kept_turned, Plain, known, keeps, changed, drafts_same, told_on, waits_on, waits_there, same_unmade}
+use Rattle.core_model.proofs.Keeps.{kept_turned, Plain, known, keeps, changed, drafts_same, told_on, waits_on, waits_there}
 use Rattle.core_model.proofs.Announces.{told_same, pending_same, links_put}
 
 -- a list by its values
@@ -74,7 +77,7 @@ module _ (z : Lane) (s : State) (L : Lawful z s) (c : ℕ) where
     placed q i at e = some_none (sym at ∙ (ap G.spot e ∙ off))
 
     on_path : (i : ℕ) → G.head ≤ i → i < places G → G.path i ≢ r
-    on_path i from below = placed (G.path i) i (L.rows.spots i from below)
+    on_path i from below = placed (G.path i) i (L.list.rows.spots i from below)
 
     grows : Grows z (λ q. q ≡ r) (world s G) W
     grows = record {
@@ -95,38 +98,47 @@ module _ (z : Lane) (s : State) (L : Lawful z s) (c : ℕ) where
     k' : Caller
     k' = turned me t
 
-    pub row_stored : Each z W c (turn_facts z c (turned me t) t) → Lawful z (changed s c memory' [] (turned me t))
+    pub row_stored : AtTurn z W c (turned me t) t → Lawful z (changed s c memory' [] (turned me t))
     row_stored knows = keeps z s L c memory' [] G (turned me t) (λ q. q ≡ r) (λ q e. ap z.home e ∙ home) grows
-        (λ d _. (refl, ap (λ (h : List Group). mine h d) (append-nil s.history), drafts_same z (world s G) W refl refl refl d))
+        (λ d _. record { landed = refl; made = ap (λ (h : List Group). mine h d) (append-nil s.history); drafts = drafts_same z (world s G) W refl refl refl d; unmade = (L.callers d).unmade })
         (still (IsProper z.callers) L.history)
         (still (λ h. last_queue h ≡ run (λ i. value' (G.path i)) (suc (G.head + G.shown)) G.queued)
-        (L.queue ∙ run_same (λ i. s.memory.value (G.path i)) (λ i. value' (G.path i)) (suc (G.head + G.shown)) G.queued (λ j from below. let fits = L.head.fits in sym (values (G.path j) (on_path j (omega arith) (omega arith))))))
+        (L.queue ∙ run_same (λ i. s.memory.value (G.path i)) (λ i. value' (G.path i)) (suc (G.head + G.shown)) G.queued (λ j from below. let fits = L.list.head.fits in sym (values (G.path j) (on_path j (omega arith) (omega arith))))))
         (record {
-          joined = λ i from below. links (G.path i) (on_path i from (omega arith)) ∙ L.rows.joined i from below;
-          last = links (G.path (G.head + G.rest)) (on_path (G.head + G.rest) (omega arith) (omega arith)) ∙ L.rows.last;
-          spots = L.rows.spots;
-          inside = L.rows.inside;
+          rows = record {
+            joined = λ i from below. links (G.path i) (on_path i from (omega arith)) ∙ L.list.rows.joined i from below;
+            last = links (G.path (G.head + G.rest)) (on_path (G.head + G.rest) (omega arith) (omega arith)) ∙ L.list.rows.last;
+            spots = L.list.rows.spots;
+            inside = L.list.rows.inside;
+          };
+          item_rows = L.list.item_rows;
+          head = L.list.head;
+          tail = L.list.tail;
+          counts = still (λ h. G.head + G.rest ≤ length (operations h)) L.list.counts;
+          links = ranges;
         })
-        L.item_rows L.head L.tail
-        (still (λ h. G.head + G.rest ≤ length (operations h)) L.counts)
-        ranges L.announced
+        L.announced
         (told_on z s L c memory' G t (inl plain) (λ a at_head. told_same s.memory.value value' G.path G.path (G.stage a) (s.memory.said a) (owner_of z a) (s.callers (owner_of z a))
         (λ i j d from below. let inside = (L.announced.bound a i d).within in let head = (L.announced.standing a i at_head d).from in values (G.path j) (on_path j (omega arith) (omega arith))) (L.told a at_head)))
         (waits_on z s L c memory' G t (λ a waits. let p = L.pending a waits in let ne = λ (i : ℕ) (below : i < (s.memory.said a).counts.enqs) (e : G.chain i ≡ r). plain a (waits_there z s L c a waits) (sym (p.homes i below) ∙ (ap z.home e ∙ home)) in
         pending_same z s.memory.link link' s.memory.value value' G.spot G.spot G.chain (G.landed (owner_of z a)) (G.landed (owner_of z a)) (s.memory.said a) (owner_of z a) (s.callers (owner_of z a))
         (λ i below. links (G.chain i) (ne i below)) (λ i below. values (G.chain i) (ne i below)) p.unlinked refl p))
-        (same_unmade z s L c (turned me t) refl)
-        (ap (λ (h : List Group). mine h c) (append-nil s.history) ∙ L.own_groups c)
-        (L.allowed c)
-        (let f = L.kept_facts c in (
-          (λ i from below known. owns_stays z (λ q. q ≡ r) (world s G) W grows c (item z c i) (apart i from) (f.0 i from below known)),
-          (still (λ h. me.started_at ≤ length h) f.1.0, (still (λ h. Kept h c (turned me t)) (kept_turned s.history c me t me.values f.1.1.0), knows)),
-        ))
+        (record {
+          unmade = (L.callers c).unmade;
+          own_groups = ap (λ (h : List Group). mine h c) (append-nil s.history) ∙ (L.callers c).own_groups;
+          allowed = (L.callers c).allowed;
+          knows = let f = (L.callers c).knows in record {
+            unused = λ i from below known. owns_stays z (λ q. q ≡ r) (world s G) W grows c (item z c i) (apart i from) (f.unused i from below known);
+            started = still (λ h. me.started_at ≤ length h) f.started;
+            last = still (λ h. Kept h c (turned me t)) (kept_turned s.history c me t me.values f.last);
+            at_turn = knows;
+          };
+        })
 
   -- a value
-  module _ (d : Draft) (i v : ℕ) (f : Each z (world s L.ghost) c (turn_facts z c (s.callers c) (BatchValue d i v))) where
+  module _ (d : Draft) (i v : ℕ) (f : AtTurn z (world s L.ghost) c (s.callers c) (turn.Batch d (batch.StoreValue i v))) where
     rows : Holds z (world s L.ghost) c (fills (s.callers c).taken d.notice (s.callers c).ops i 0)
-    rows = f.1.1.0
+    rows = f.here.0
 
     abbrev value_at : ℕ → ℕ
     value_at = put s.memory.value (d.notice.first + i) v
@@ -139,43 +151,41 @@ module _ (z : Lane) (s : State) (L : Lawful z s) (c : ℕ) where
       rows.0,
       rows.1,
       (λ l below more. dite (ℕ_discrete l i)
-          (λ e. subst (λ (y : ℕ). value_at (d.notice.first + y) ≡ get_or (enqueued me.ops) y 0) (sym e) (put_here s.memory.value (d.notice.first + i) v ∙ f.1.1.1.1.0.1))
+          (λ e. subst (λ (y : ℕ). value_at (d.notice.first + y) ≡ get_or (enqueued me.ops) y 0) (sym e) (put_here s.memory.value (d.notice.first + i) v ∙ f.here.1.1.0.1))
           (λ ne. put_else s.memory.value (d.notice.first + i) v (d.notice.first + l) (λ e. omega arith) ∙ rows.2 l below (omega arith))),
       rows.3,
       rows.4,
     )
 
-    value_next : (b one : Bool) → eqb (suc i) d.notice.counts.enqs ≡ b → eqb d.notice.counts.enqs 1 ≡ one
-        → Lawful z (changed s c (record s.memory { value = value_at }) [] (turned me (cond b (cond one (BatchField d field.OldTail) (BatchChain d 0)) (BatchValue d (suc i) (get_or (enqueued me.ops) (suc i) 0)))))
-    value_next b one eb eo = let mine' = rows.0 i f.1.1.1.1.0.0 in row_stored (d.notice.first + i) mine'.0 mine'.2 s.memory.link value_at (λ _ _. refl) (λ q ne. put_else s.memory.value (d.notice.first + i) v q ne) L.links f.0.1
-        (cond b (cond one (BatchField d field.OldTail) (BatchChain d 0)) (BatchValue d (suc i) (get_or (enqueued me.ops) (suc i) 0))) (λ x from. rows.1 i x f.1.1.1.1.0.0 from) (knows b one eb eo) where
-          knows : (b one : Bool) → eqb (suc i) d.notice.counts.enqs ≡ b → eqb d.notice.counts.enqs 1 ≡ one
-              → Each z V c (turn_facts z c (turned me (cond b (cond one (BatchField d field.OldTail) (BatchChain d 0)) (BatchValue d (suc i) (get_or (enqueued me.ops) (suc i) 0)))) (cond b (cond one (BatchField d field.OldTail) (BatchChain d 0)) (BatchValue d (suc i) (get_or (enqueued me.ops) (suc i) 0))))
-          knows true true eb eo = let all = eqb-true (suc i) d.notice.counts.enqs eb in let single = eqb-true d.notice.counts.enqs 1 eo in
-              (f.0, (f.1.0, (subst (λ (y : ℕ × ℕ). Holds z V c (fills me.taken d.notice me.ops y.0 y.1)) (λ k. (all k, (let e : 0 ≡ d.notice.counts.enqs - 1 = omega arith in e) k)) value_filled, (f.1.1.1.0, tt))))
-          knows true false eb eo = let all = eqb-true (suc i) d.notice.counts.enqs eb in let some = f.1.0.2 in (
-            f.0,
-            (
-              f.1.0,
-              (
-                subst (λ (y : ℕ). Holds z V c (fills me.taken d.notice me.ops y 0)) all value_filled,
-                (
-                  f.1.1.1.0,
-                  (dite (ℕ_discrete d.notice.counts.enqs 1) (λ e. absurd (differ (sym (eq-eqb d.notice.counts.enqs 1 e) ∙ eo))) (λ ne. omega arith), tt),
-                ),
-              ),
-            ),
-          )
-          knows false _ eb _ = let below = f.1.1.1.1.0.0 in
-              (f.0, (f.1.0, (value_filled, (f.1.1.1.0, ((dite (ℕ_discrete (suc i) d.notice.counts.enqs) (λ e. absurd (differ (sym (eq-eqb (suc i) d.notice.counts.enqs e) ∙ eb))) (λ ne. omega arith), refl), tt)))))
+    value_goes : (u : Turn) → AtTurn z V c (turned me u) u → Lawful z (changed s c (record s.memory { value = value_at }) [] (turned me u))
+    value_goes u kn = let mine' = rows.0 i f.here.1.1.0.0 in row_stored (d.notice.first + i) mine'.0 mine'.2 s.memory.link value_at (λ _ _. refl) (λ q ne. put_else s.memory.value (d.notice.first + i) v q ne) L.list.links f.call.0.1
+        u (λ x from. rows.1 i x f.here.1.1.0.0 from) kn
 
-  pub keeps_batch_value : (d : Draft) (i v : ℕ) → (s.callers c).turn ≡ BatchValue d i v → Lawful z (step_at z s c (BatchValue d i v))
-  keeps_batch_value d i v is = value_next d i v (known z s L c (BatchValue d i v) is) (eqb (suc i) d.notice.counts.enqs) (eqb d.notice.counts.enqs 1) refl refl
+    value_next : (b one : Bool) → eqb (suc i) d.notice.counts.enqs ≡ b → eqb d.notice.counts.enqs 1 ≡ one
+        → Lawful z (changed s c (record s.memory { value = value_at }) [] (followed (length (s.history ++ [])) c me (cond b (GoesOn (turn.Batch d (cond one (batch.StoreField field.OldTail) (batch.StoreChain 0)))) (Fills d (suc i)))))
+    value_next true true eb eo = let all = eqb-true (suc i) d.notice.counts.enqs eb in let single = eqb-true d.notice.counts.enqs 1 eo in value_goes (turn.Batch d (batch.StoreField field.OldTail)) record {
+      call = f.call;
+      here = (subst (λ (y : ℕ × ℕ). Holds z V c (fills me.taken d.notice me.ops y.0 y.1)) (λ k. (all k, (let e : 0 ≡ d.notice.counts.enqs - 1 = omega arith in e) k)) value_filled, (f.here.1.0, tt));
+    }
+    value_next true false eb eo = let all = eqb-true (suc i) d.notice.counts.enqs eb in let some = f.call.1.0.2 in value_goes (turn.Batch d (batch.StoreChain 0)) record {
+      call = f.call;
+      here = (
+        subst (λ (y : ℕ). Holds z V c (fills me.taken d.notice me.ops y 0)) all value_filled,
+        (f.here.1.0, (dite (ℕ_discrete d.notice.counts.enqs 1) (λ e. absurd (differ (sym (eq-eqb d.notice.counts.enqs 1 e) ∙ eo))) (λ ne. omega arith), tt)),
+      );
+    }
+    value_next false _ eb _ = let below = f.here.1.1.0.0 in value_goes (turn.Batch d (batch.StoreValue (suc i) (get_or (enqueued me.ops) (suc i) 0))) record {
+      call = f.call;
+      here = (value_filled, (f.here.1.0, ((dite (ℕ_discrete (suc i) d.notice.counts.enqs) (λ e. absurd (differ (sym (eq-eqb (suc i) d.notice.counts.enqs e) ∙ eb))) (λ ne. omega arith), refl), tt)));
+    }
+
+  pub keeps_batch_value : (d : Draft) (i v : ℕ) → (s.callers c).turn ≡ turn.Batch d (batch.StoreValue i v) → Lawful z (step_at z s c (turn.Batch d (batch.StoreValue i v)))
+  keeps_batch_value d i v is = value_next d i v (known z s L c (turn.Batch d (batch.StoreValue i v)) is) (eqb (suc i) d.notice.counts.enqs) (eqb d.notice.counts.enqs 1) refl refl
 
   -- a link inside the own chain
-  module _ (d : Draft) (i : ℕ) (f : Each z (world s L.ghost) c (turn_facts z c (s.callers c) (BatchChain d i))) where
+  module _ (d : Draft) (i : ℕ) (f : AtTurn z (world s L.ghost) c (s.callers c) (turn.Batch d (batch.StoreChain i))) where
     rows_there : Holds z (world s L.ghost) c (fills (s.callers c).taken d.notice (s.callers c).ops d.notice.counts.enqs i)
-    rows_there = f.1.1.0
+    rows_there = f.here.0
 
     abbrev link_at : ℕ → LinkWord
     link_at = put s.memory.link (d.notice.first + i) (Single (suc (d.notice.first + i)))
@@ -195,19 +205,19 @@ module _ (z : Lane) (s : State) (L : Lawful z s) (c : ℕ) where
     )
 
     link_next : (b : Bool) → eqb (suc (suc i)) d.notice.counts.enqs ≡ b
-        → Lawful z (changed s c (record s.memory { link = link_at }) [] (turned me (cond b (BatchField d field.OldTail) (BatchChain d (suc i)))))
-    link_next b eb = let next : suc i < d.notice.counts.enqs = f.1.1.1.1.0 in let below : i < d.notice.counts.enqs = omega arith in let mine' = rows_there.0 i below in let inside = (rows_there.0 (suc i) next).1 in
+        → Lawful z (changed s c (record s.memory { link = link_at }) [] (turned me (turn.Batch d (cond b (batch.StoreField field.OldTail) (batch.StoreChain (suc i))))))
+    link_next b eb = let next : suc i < d.notice.counts.enqs = f.here.1.1.0 in let below : i < d.notice.counts.enqs = omega arith in let mine' = rows_there.0 i below in let inside = (rows_there.0 (suc i) next).1 in
         row_stored (d.notice.first + i) mine'.0 mine'.2 link_at s.memory.value (λ q ne. put_else s.memory.link (d.notice.first + i) (Single (suc (d.notice.first + i))) q ne) (λ _ _. refl)
-        (links_put z.rows s.memory.link (d.notice.first + i) (Single (suc (d.notice.first + i))) (omega arith) L.links) f.0.1
-        (cond b (BatchField d field.OldTail) (BatchChain d (suc i))) (λ x from. rows_there.1 i x below from) (knows b eb) where
-          knows : (b : Bool) → eqb (suc (suc i)) d.notice.counts.enqs ≡ b → Each z U c (turn_facts z c (turned me (cond b (BatchField d field.OldTail) (BatchChain d (suc i)))) (cond b (BatchField d field.OldTail) (BatchChain d (suc i))))
+        (links_put z.rows s.memory.link (d.notice.first + i) (Single (suc (d.notice.first + i))) (omega arith) L.list.links) f.call.0.1
+        (turn.Batch d (cond b (batch.StoreField field.OldTail) (batch.StoreChain (suc i)))) (λ x from. rows_there.1 i x below from) (knows b eb) where
+          knows : (b : Bool) → eqb (suc (suc i)) d.notice.counts.enqs ≡ b → AtTurn z U c (turned me (turn.Batch d (cond b (batch.StoreField field.OldTail) (batch.StoreChain (suc i))))) (turn.Batch d (cond b (batch.StoreField field.OldTail) (batch.StoreChain (suc i))))
           knows true eb = let all = eqb-true (suc (suc i)) d.notice.counts.enqs eb in
-              (f.0, (f.1.0, (subst (λ (y : ℕ). Holds z U c (fills me.taken d.notice me.ops d.notice.counts.enqs y)) (let e : suc i ≡ d.notice.counts.enqs - 1 = omega arith in e) link_filled, (f.1.1.1.0, tt))))
-          knows false eb = let next : suc i < d.notice.counts.enqs = f.1.1.1.1.0 in
-              (f.0, (f.1.0, (link_filled, (f.1.1.1.0, (dite (ℕ_discrete (suc (suc i)) d.notice.counts.enqs) (λ e. absurd (differ (sym (eq-eqb (suc (suc i)) d.notice.counts.enqs e) ∙ eb))) (λ ne. omega arith), tt)))))
+              record { call = f.call; here = (subst (λ (y : ℕ). Holds z U c (fills me.taken d.notice me.ops d.notice.counts.enqs y)) (let e : suc i ≡ d.notice.counts.enqs - 1 = omega arith in e) link_filled, (f.here.1.0, tt)) }
+          knows false eb = let next : suc i < d.notice.counts.enqs = f.here.1.1.0 in
+              record { call = f.call; here = (link_filled, (f.here.1.0, (dite (ℕ_discrete (suc (suc i)) d.notice.counts.enqs) (λ e. absurd (differ (sym (eq-eqb (suc (suc i)) d.notice.counts.enqs e) ∙ eb))) (λ ne. omega arith), tt))) }
 
-  pub keeps_batch_chain : (d : Draft) (i : ℕ) → (s.callers c).turn ≡ BatchChain d i → Lawful z (step_at z s c (BatchChain d i))
-  keeps_batch_chain d i is = link_next d i (known z s L c (BatchChain d i) is) (eqb (suc (suc i)) d.notice.counts.enqs) refl
+  pub keeps_batch_chain : (d : Draft) (i : ℕ) → (s.callers c).turn ≡ turn.Batch d (batch.StoreChain i) → Lawful z (step_at z s c (turn.Batch d (batch.StoreChain i)))
+  keeps_batch_chain d i is = link_next d i (known z s L c (turn.Batch d (batch.StoreChain i)) is) (eqb (suc (suc i)) d.notice.counts.enqs) refl
 
   -- a word of an own announcement that isn't installed is stored
   module _ (a : ℕ) (fresh : G.stage a ≡ unused) (own : owner_of z a ≡ c) (said' : ℕ → Notice) (old' : ℕ → Option Place) (saids : (x : ℕ) → x ≢ a → said' x ≡ s.memory.said x) (olds : (x : ℕ) → x ≢ a → old' x ≡ s.memory.old_tail x)
@@ -257,46 +267,49 @@ module _ (z : Lane) (s : State) (L : Lawful z s) (c : ℕ) where
       lags = λ below by. let x = A.lags below by in (x.0, x.1, x.2, subst (λ (n : Notice). G.head + G.rest ≤ G.tail + n.counts.enqs) (sym (saids x.0 (other_decided x.0 G.tail x.1))) x.3);
     }
 
-    pub ann_stored : Each z S c (turn_facts z c (turned me t) t) → Lawful z (changed s c memory_ann [] (turned me t))
+    pub ann_stored : AtTurn z S c (turned me t) t → Lawful z (changed s c memory_ann [] (turned me t))
     ann_stored knows = keeps z s L c memory_ann [] G (turned me t) (λ _. ⊥) (λ _ x. absurd x) storing
-        (λ d n. (refl, ap (λ (h : List Group). mine h d) (append-nil s.history), λ x is u. let ne = λ (e : x ≡ a). n (sym is ∙ (ap (owner_of z) e ∙ own)) in (u, saids x ne, olds x ne)))
+        (λ d n. record { landed = refl; made = ap (λ (h : List Group). mine h d) (append-nil s.history); drafts = λ x is u. let ne = λ (e : x ≡ a). n (sym is ∙ (ap (owner_of z) e ∙ own)) in (u, saids x ne, olds x ne); unmade = (L.callers d).unmade })
         (still (IsProper z.callers) L.history)
         (still (λ h. last_queue h ≡ shown_queue s.memory.value G) L.queue)
-        L.rows L.item_rows L.head L.tail
-        (still (λ h. G.head + G.rest ≤ length (operations h)) L.counts)
-        L.links announced_as
+        (record { rows = L.list.rows; item_rows = L.list.item_rows; head = L.list.head; tail = L.list.tail; counts = still (λ h. G.head + G.rest ≤ length (operations h)) L.list.counts; links = L.list.links })
+        announced_as
         (told_on z s L c memory_ann G t (inl plain) (λ x at_head. subst (λ (n : Notice). Told s.memory.value G.path (G.stage x) n (owner_of z x) (s.callers (owner_of z x))) (sym (saids x (other x (L.announced.installed x at_head)))) (L.told x at_head)))
         (waits_on z s L c memory_ann G t (λ x waits. subst (λ (n : Notice). Pending z s.memory.link s.memory.value G.spot G.chain (G.landed (owner_of z x)) n (owner_of z x) (s.callers (owner_of z x))) (sym (saids x (other_waits x waits))) (L.pending x waits)))
-        (same_unmade z s L c (turned me t) refl)
-        (ap (λ (h : List Group). mine h c) (append-nil s.history) ∙ L.own_groups c)
-        (L.allowed c)
-        (let f = L.kept_facts c in (
-          (λ i from below known. owns_stays z (λ _. ⊥) (world s G) S storing c (item z c i) (λ x. x) (f.0 i from below known)),
-          (still (λ h. me.started_at ≤ length h) f.1.0, (still (λ h. Kept h c (turned me t)) (kept_turned s.history c me t me.values f.1.1.0), knows)),
-        ))
+        (record {
+          unmade = (L.callers c).unmade;
+          own_groups = ap (λ (h : List Group). mine h c) (append-nil s.history) ∙ (L.callers c).own_groups;
+          allowed = (L.callers c).allowed;
+          knows = let f = (L.callers c).knows in record {
+            unused = λ i from below known. owns_stays z (λ _. ⊥) (world s G) S storing c (item z c i) (λ x. x) (f.unused i from below known);
+            started = still (λ h. me.started_at ≤ length h) f.started;
+            last = still (λ h. Kept h c (turned me t)) (kept_turned s.history c me t me.values f.last);
+            at_turn = knows;
+          };
+        })
 
   -- a field of what the draft says
-  said_stored : (d : Draft) (f : AnnField) (n : Notice) (next : AnnField) → Each z (world s L.ghost) c (batch_facts z (command (s.callers c)) d f)
-      → AllAgree (stored_before next) (s.memory.old_tail d.ann) n d.notice → Lawful z (changed s c (record s.memory { said = put s.memory.said d.ann n }) [] (turned (s.callers c) (BatchField d next)))
-  said_stored d f n next (off, (is, (rows, (w, _)))) agrees = ann_stored d.ann w.0 w.1 (put s.memory.said d.ann n) s.memory.old_tail (λ x ne. put_else s.memory.said d.ann n x ne) (λ _ _. refl) off.1 (BatchField d next)
-      (off, (is, (rows, ((w.0, w.1, subst (λ (y : Notice). AllAgree (stored_before next) (s.memory.old_tail d.ann) y d.notice) (sym (put_here s.memory.said d.ann n)) agrees), tt))))
+  said_stored : (d : Draft) (f : AnnField) (n : Notice) (next : AnnField) → AtTurn z (world s L.ghost) c (s.callers c) (turn.Batch d (batch.StoreField f))
+      → AllAgree (stored_before next) (s.memory.old_tail d.ann) n d.notice → Lawful z (changed s c (record s.memory { said = put s.memory.said d.ann n }) [] (turned (s.callers c) (turn.Batch d (batch.StoreField next))))
+  said_stored d f n next x agrees = let w = x.here.1.0 in ann_stored d.ann w.0 w.1 (put s.memory.said d.ann n) s.memory.old_tail (λ y ne. put_else s.memory.said d.ann n y ne) (λ _ _. refl) x.call.0.1 (turn.Batch d (batch.StoreField next))
+      (record { call = x.call; here = (x.here.0, ((w.0, w.1, subst (λ (y : Notice). AllAgree (stored_before next) (s.memory.old_tail d.ann) y d.notice) (sym (put_here s.memory.said d.ann n)) agrees), tt)) })
 
-  field_stored : (d : Draft) (f : AnnField) → Each z (world s L.ghost) c (batch_facts z (command (s.callers c)) d f) → Lawful z (step_at z s c (BatchField d f))
-  field_stored d field.OldTail (off, (is, (rows, (w, _)))) = ann_stored d.ann w.0 w.1 s.memory.said (put s.memory.old_tail d.ann None) (λ _ _. refl) (λ x ne. put_else s.memory.old_tail d.ann None x ne) off.1 (BatchField d field.First)
-      (off, (is, (rows, ((w.0, w.1, (put_here s.memory.old_tail d.ann None, tt)), tt))))
-  field_stored d field.First x = said_stored d field.First (record (s.memory.said d.ann) { first = d.notice.first }) field.Last x (refl, x.1.1.1.0.2)
-  field_stored d field.Last x = said_stored d field.Last (record (s.memory.said d.ann) { last = d.notice.last }) field.Counts x (refl, x.1.1.1.0.2)
-  field_stored d field.Counts x = said_stored d field.Counts (record (s.memory.said d.ann) { counts = d.notice.counts }) field.BatchNo x (refl, x.1.1.1.0.2)
-  field_stored d field.BatchNo x = said_stored d field.BatchNo (record (s.memory.said d.ann) { number = d.notice.number }) field.Order0 x (refl, x.1.1.1.0.2)
-  field_stored d field.Order0 x = said_stored d field.Order0 (record (s.memory.said d.ann) { order0 = d.notice.order0 }) field.Order1 x (refl, x.1.1.1.0.2)
-  field_stored d field.Order1 x = said_stored d field.Order1 (record (s.memory.said d.ann) { order1 = d.notice.order1 }) field.Order2 x (refl, x.1.1.1.0.2)
-  field_stored d field.Order2 x = said_stored d field.Order2 (record (s.memory.said d.ann) { order2 = d.notice.order2 }) field.Order3 x (refl, x.1.1.1.0.2)
-  field_stored d field.Order3 (off, (is, (rows, (w, _)))) = let n : Notice = record (s.memory.said d.ann) { order3 = d.notice.order3 } in
-      ann_stored d.ann w.0 w.1 (put s.memory.said d.ann n) s.memory.old_tail (λ x ne. put_else s.memory.said d.ann n x ne) (λ _ _. refl) off.1 (BatchHead d)
-      (off, (is, (rows, ((w.0, w.1, subst (λ (y : Notice). AllAgree (stored_before field.OldHead) (s.memory.old_tail d.ann) y d.notice) (sym (put_here s.memory.said d.ann n)) (refl, w.2)), tt))))
-  field_stored d field.OldHead (off, (is, (rows, (w, _)))) = let n : Notice = record (s.memory.said d.ann) { old_head = d.notice.old_head } in
-      ann_stored d.ann w.0 w.1 (put s.memory.said d.ann n) s.memory.old_tail (λ x ne. put_else s.memory.said d.ann n x ne) (λ _ _. refl) off.1 (Install d)
-      ((w.0, w.1, ap (λ (y : Notice). y.old_head) (put_here s.memory.said d.ann n)), (off, (is, (rows, ((w.0, w.1, subst (λ (y : Notice). AllAgree (stored_before field.OldHead) (s.memory.old_tail d.ann) y d.notice) (sym (put_here s.memory.said d.ann n)) w.2), tt)))))
+  field_stored : (d : Draft) (f : AnnField) → AtTurn z (world s L.ghost) c (s.callers c) (turn.Batch d (batch.StoreField f)) → Lawful z (step_at z s c (turn.Batch d (batch.StoreField f)))
+  field_stored d field.OldTail x = let w = x.here.1.0 in ann_stored d.ann w.0 w.1 s.memory.said (put s.memory.old_tail d.ann None) (λ _ _. refl) (λ y ne. put_else s.memory.old_tail d.ann None y ne) x.call.0.1 (turn.Batch d (batch.StoreField field.First))
+      (record { call = x.call; here = (x.here.0, ((w.0, w.1, (put_here s.memory.old_tail d.ann None, tt)), tt)) })
+  field_stored d field.First x = said_stored d field.First (record (s.memory.said d.ann) { first = d.notice.first }) field.Last x (refl, x.here.1.0.2)
+  field_stored d field.Last x = said_stored d field.Last (record (s.memory.said d.ann) { last = d.notice.last }) field.Counts x (refl, x.here.1.0.2)
+  field_stored d field.Counts x = said_stored d field.Counts (record (s.memory.said d.ann) { counts = d.notice.counts }) field.BatchNo x (refl, x.here.1.0.2)
+  field_stored d field.BatchNo x = said_stored d field.BatchNo (record (s.memory.said d.ann) { number = d.notice.number }) field.Order0 x (refl, x.here.1.0.2)
+  field_stored d field.Order0 x = said_stored d field.Order0 (record (s.memory.said d.ann) { order0 = d.notice.order0 }) field.Order1 x (refl, x.here.1.0.2)
+  field_stored d field.Order1 x = said_stored d field.Order1 (record (s.memory.said d.ann) { order1 = d.notice.order1 }) field.Order2 x (refl, x.here.1.0.2)
+  field_stored d field.Order2 x = said_stored d field.Order2 (record (s.memory.said d.ann) { order2 = d.notice.order2 }) field.Order3 x (refl, x.here.1.0.2)
+  field_stored d field.Order3 x = let w = x.here.1.0 in let n : Notice = record (s.memory.said d.ann) { order3 = d.notice.order3 } in
+      ann_stored d.ann w.0 w.1 (put s.memory.said d.ann n) s.memory.old_tail (λ y ne. put_else s.memory.said d.ann n y ne) (λ _ _. refl) x.call.0.1 (turn.Batch d batch.LoadHead)
+      (record { call = x.call; here = (x.here.0, ((w.0, w.1, subst (λ (y : Notice). AllAgree (stored_before field.OldHead) (s.memory.old_tail d.ann) y d.notice) (sym (put_here s.memory.said d.ann n)) (refl, w.2)), tt)) })
+  field_stored d field.OldHead x = let w = x.here.1.0 in let n : Notice = record (s.memory.said d.ann) { old_head = d.notice.old_head } in
+      ann_stored d.ann w.0 w.1 (put s.memory.said d.ann n) s.memory.old_tail (λ y ne. put_else s.memory.said d.ann n y ne) (λ _ _. refl) x.call.0.1 (turn.Batch d batch.Install)
+      (record { call = x.call; here = ((w.0, w.1, ap (λ (y : Notice). y.old_head) (put_here s.memory.said d.ann n)), (x.here.0, ((w.0, w.1, subst (λ (y : Notice). AllAgree (stored_before field.OldHead) (s.memory.old_tail d.ann) y d.notice) (sym (put_here s.memory.said d.ann n)) w.2), tt))) })
 
-  pub keeps_batch_field : (d : Draft) (f : AnnField) → (s.callers c).turn ≡ BatchField d f → Lawful z (step_at z s c (BatchField d f))
-  keeps_batch_field d f is = field_stored d f (known z s L c (BatchField d f) is)
+  pub keeps_batch_field : (d : Draft) (f : AnnField) → (s.callers c).turn ≡ turn.Batch d (batch.StoreField f) → Lawful z (step_at z s c (turn.Batch d (batch.StoreField f)))
+  keeps_batch_field d f is = field_stored d f (known z s L c (turn.Batch d (batch.StoreField f)) is)

@@ -16,8 +16,7 @@ use Rattle.word_rows.specs.declared.head_word.HeadWord.TheVariants.{Node, Ann}
 use Rattle.core_model.specs.declared.turn.Turn.TheVariants.{Idle}
 use Rattle.core_model.specs.declared.turn.CallEnd.TheVariants.{Done}
 use Rattle.core_model.specs.Lane.{Lane}
-use Rattle.core_model.specs.State.{State}
-use Rattle.core_model.specs.Step.{own_group}
+use Rattle.core_model.specs.State.{State, own_group}
 use Rattle.core_model.specs.Kept.{numbered}
 use Rattle.core_model.specs.Lawful.{head_word, Lawful}
 use Rattle.core_model.specs.Once.{times}
@@ -29,17 +28,17 @@ use Rattle.core_model.proofs.Keeps.{known}
 module _ (z : Lane) (s : State) (L : Lawful z s) where
   -- the groups of a caller that runs no command are those of its ended ones
   pub idle_groups : (c : ℕ) → (s.callers c).turn ≡ Idle → mine s.history c ≡ (s.callers c).mine
-  idle_groups c idle = L.own_groups c ∙ (ap (λ (b : Bool). (s.callers c).mine ++ cond b (own_group c (s.callers c) ∷ []) []) (known z s L c Idle idle).0.0 ∙ append-nil (s.callers c).mine)
+  idle_groups c idle = (L.callers c).own_groups ∙ (ap (λ (b : Bool). (s.callers c).mine ++ cond b (own_group c (s.callers c) ∷ []) []) (known z s L c Idle idle).call.0.0 ∙ append-nil (s.callers c).mine)
 
   -- a command of an idle caller ends with Full at once exactly where no rows, or no announcement, are left for it
   pub full_exactly : (c : ℕ) (ops : List Op) → IsCommand ops → (s.callers c).turn ≡ Idle
       → ((begun z (length s.history) c (s.callers c) ops).turn ≡ Idle) ↔ LacksRows z (mine s.history c) ops
   full_exactly c ops is idle = by (leb ((s.callers c).taken + enqueue_count ops) z.items) (leb ((s.callers c).made + anns_taken ops) z.callers) refl refl where
     rows : (s.callers c).taken ≡ enqueue_count (operations (mine s.history c)) + 0
-    rows = (L.allowed c).rows ∙ (λ i. enqueue_count (operations (sym (idle_groups c idle) i)) + enqueue_count ((known z s L c Idle idle).1.0.0 i))
+    rows = (L.callers c).allowed.rows ∙ (λ i. enqueue_count (operations (sym (idle_groups c idle) i)) + enqueue_count ((known z s L c Idle idle).here.0.0 i))
 
     anns : (s.callers c).made ≡ many_count (mine s.history c) + 0
-    anns = (L.allowed c).anns ∙ (λ i. many_count (sym (idle_groups c idle) i) + anns_taken ((known z s L c Idle idle).1.0.0 i))
+    anns = (L.callers c).allowed.anns ∙ (λ i. many_count (sym (idle_groups c idle) i) + anns_taken ((known z s L c Idle idle).here.0.0 i))
 
     starts : (xs : List Op) → 0 < length xs → first_turn z c (s.callers c) xs ≡ Idle → ⊥
     starts [] some e = absurd (omega arith)
@@ -49,7 +48,7 @@ module _ (z : Lane) (s : State) (L : Lawful z s) where
 
     more_anns : (b : Bool) → ltb 1 (length ops) ≡ b → z.callers < (s.callers c).made + cond b 1 0 → (1 < length ops) × (z.callers ≤ many_count (mine s.history c))
     more_anns true many more = let n = anns in (ltb-true _ _ many, omega arith)
-    more_anns false one more = let most = (L.allowed c).has_anns in absurd (omega arith)
+    more_anns false one more = let most = (L.callers c).allowed.has_anns in absurd (omega arith)
 
     one_ann : 1 < length ops → anns_taken ops ≡ 1
     one_ann many = ap (λ (b : Bool). cond b 1 0) (lt-ltb 1 (length ops) many)
@@ -68,7 +67,7 @@ module _ (z : Lane) (s : State) (L : Lawful z s) where
   one_place before behind g is = ap (times g) is ∙ stands_once z.callers before behind g (subst (IsProper z.callers) is L.history)
 
   pub ended_done : (c : ℕ) → (s.callers c).turn ≡ Idle → (s.callers c).outcome ≡ Some Done → EndedDone s c
-  ended_done c idle done = let D = (L.kept_facts c).1.1.0.done done in let end = some (s.callers c).ended_at ((known z s L c Idle idle).1.0.1 (λ none. never (sym done ∙ none))) in record {
+  ended_done c idle done = let D = (L.callers c).knows.last.done done in let end = some (s.callers c).ended_at ((known z s L c Idle idle).here.0.1 (λ none. never (sym done ∙ none))) in record {
     earlier = D.earlier;
     ops = D.ops;
     own_groups = idle_groups c idle ∙ D.last;
@@ -87,23 +86,23 @@ module _ (z : Lane) (s : State) (L : Lawful z s) where
     some None is = absurd (cc is)
 
   pub no_answers : (c : ℕ) → (s.callers c).outcome ≢ Some Done → (s.callers c).answers ≡ []
-  no_answers c other = (L.kept_facts c).1.1.0.none other
+  no_answers c other = (L.callers c).knows.last.none other
 
   module _ (fits : z.first + z.callers * z.allowance < 2 ^ 44) where
     pub tail_fits : s.memory.tail.count < 2 ^ 44
-    tail_fits = let count = ap (λ (p : Place). p.count) L.tail.named in let within = L.tail.within in let made = L.counts in let all = all_within z s L in omega arith
+    tail_fits = let count = ap (λ (p : Place). p.count) L.list.tail.named in let within = L.list.tail.within in let made = L.list.counts in let all = all_within z s L in omega arith
 
     pub head_fits : (p : Place) → s.memory.head ≡ Node p → p.count < 2 ^ 44
-    head_fits p is = by L.ghost.ann (sym is ∙ L.head.named) where
+    head_fits p is = by L.ghost.ann (sym is ∙ L.list.head.named) where
       by : (a : Option ℕ) → Node p ≡ head_word z.first L.ghost.path L.ghost.head a → p.count < 2 ^ 44
-      by None e = let count = ap (λ (q : Place). q.count) (Rattle.core_model.proofs.Loads.same_node p _ e) in let made = L.counts in let all = all_within z s L in omega arith
+      by None e = let count = ap (λ (q : Place). q.count) (Rattle.core_model.proofs.Loads.same_node p _ e) in let made = L.list.counts in let all = all_within z s L in omega arith
       by (Some a) e = absurd (cc e)
 
     pub announced_fits : (a n : ℕ) → s.memory.head ≡ Ann a n → n < 2 ^ 44
-    announced_fits a n is = by L.ghost.ann (sym is ∙ L.head.named) where
+    announced_fits a n is = by L.ghost.ann (sym is ∙ L.list.head.named) where
       counted : (b m : ℕ) → Ann a n ≡ Ann b m → n ≡ m
       counted b m e = cc e
 
       by : (o : Option ℕ) → Ann a n ≡ head_word z.first L.ghost.path L.ghost.head o → n < 2 ^ 44
       by None e = absurd (cc e)
-      by (Some b) e = let count = counted b (z.first + L.ghost.head) e in let made = L.counts in let all = all_within z s L in omega arith
+      by (Some b) e = let count = counted b (z.first + L.ghost.head) e in let made = L.list.counts in let all = all_within z s L in omega arith

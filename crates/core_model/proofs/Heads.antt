@@ -14,18 +14,22 @@ use Rattle.word_rows.specs.declared.link_word.LinkWord.{LinkWord}
 use Rattle.word_rows.specs.declared.link_word.LinkWord.TheVariants.{Nil, Single, Chain, Shut}
 use Rattle.word_rows.specs.declared.location.Location.TheVariants.{Head, Link}
 use Rattle.word_rows.specs.declared.content.Content.TheVariants.{OfHead, OfLink}
-use Rattle.core_model.specs.declared.turn.Turn.TheVariants.{DeqHead, DeqLink, MoveHead}
+use Rattle.core_model.specs.declared.course.Course.TheVariants.{GoesOn, Ends}
+use Rattle.core_model.specs.declared.turn.Turn.TheVariants as turn
+use Rattle.core_model.specs.declared.turn.DequeuePoint.TheVariants as deq
 use Rattle.core_model.specs.Functions.{run}
 use Rattle.core_model.specs.Lane.{Lane, item}
-use Rattle.core_model.specs.State.{Memory, Caller, State, write}
-use Rattle.core_model.specs.Step.{is_node, behind, own_group, turned, ended, step_with, step_at}
+use Rattle.core_model.specs.State.{Memory, Caller, State, write, own_group}
+use Rattle.core_model.specs.Act.{is_node, behind}
+use Rattle.core_model.specs.Fact.{next_is, next_value, landed_is, is_op}
+use Rattle.core_model.specs.Step.{followed, ended, step_with, step_at}
+use Rattle.core_model.specs.Facts.{Holds, AtTurn, Knows}
 use Rattle.core_model.specs.Ghost.{at, Ghost, World}
 use Rattle.core_model.specs.Kept.{Kept}
-use Rattle.core_model.specs.Facts.{next_is, next_value, landed_is, is_op, Holds, Each, turn_facts, facts}
 use Rattle.core_model.specs.Lawful.{shown_queue, head_word, Listed, ItemRows, Headed, Tailed, Announced, Lawful}
 use Rattle.core_model.proofs.Groups.{mine-push_other}
 use Rattle.core_model.proofs.Stays.{world, some_none, anns_moved, Grows, owns_stays}
-use Rattle.core_model.proofs.Keeps.{known, quiet, keeps, changed, same_places, write_read, grows_history, drafts_same, told_plain, waits_plain, waits_there, same_unmade, allowed_end, lands_proper, lands_operations, lands_groups, lands_kept}
+use Rattle.core_model.proofs.Keeps.{known, quiet, keeps, changed, same_places, write_read, grows_history, drafts_same, told_plain, waits_plain, waits_there, allowed_end, lands_proper, lands_operations, lands_groups, lands_kept}
 use Rattle.core_model.proofs.Announces.{stages_moved}
 use Rattle.core_model.proofs.Loads.{node_found, is_last, deq_single, deq_chain, deq_shut}
 
@@ -41,14 +45,18 @@ module _ (z : Lane) (s : State) (L : Lawful z s) (c : ℕ) where
 
   -- what the caller of a dequeue knows as it ends
   rest_facts : (w : World) (xs : List Answer) → (grows : Grows z (λ _. ⊥) (world s L.ghost) w) → Holds z w c (landed_is false) → (s.callers c).started_at ≤ length w.history
-      → Kept w.history c (last xs) → Each z w c (facts z c (last xs))
-  rest_facts w xs grows off since kept = let f = L.kept_facts c in
-      ((λ i from below known. let o = f.0 i from below known in owns_stays z (λ _. ⊥) (world s L.ghost) w grows c (item z c i) (λ x. x) o), (since, (kept, (off, ((refl, λ _. some), tt))))) where
-        some : IsSome (Some (length (s.history ++ own ∷ [])))
-        some = refl
+      → Kept w.history c (last xs) → Knows z w c (last xs)
+  rest_facts w xs grows off since kept = record {
+    unused = λ i from below known. owns_stays z (λ _. ⊥) (world s L.ghost) w grows c (item z c i) (λ x. x) ((L.callers c).knows.unused i from below known);
+    started = since;
+    last = kept;
+    at_turn = record { call = (off, tt); here = ((refl, λ _. some), tt) };
+  } where
+    some : IsSome (Some (length (s.history ++ own ∷ [])))
+    some = refl
 
   since_end : (s.callers c).started_at ≤ length (s.history ++ own_group c (s.callers c) ∷ [])
-  since_end = let from = (L.kept_facts c).1.0 in let total = length-append s.history (own ∷ []) in omega arith
+  since_end = let from = (L.callers c).knows.started in let total = length-append s.history (own ∷ []) in omega arith
 
   module _ (p : Place) (n v : ℕ) (off : Holds z (world s L.ghost) c (landed_is false)) (op : Holds z (world s L.ghost) c (is_op (s.callers c).ops Deq)) (next : Holds z (world s L.ghost) c (next_is p n))
       (past : p.count < z.first + L.ghost.tail) (val : Holds z (world s L.ghost) c (next_value p v)) (head : s.memory.head ≡ Node p) where
@@ -63,10 +71,10 @@ module _ (z : Lane) (s : State) (L : Lawful z s) (c : ℕ) where
 
     -- nothing lies between the dummy and the shown head
     bare : G.shown ≡ 0
-    bare = L.head.none no_ann
+    bare = L.list.head.none no_ann
 
     all_queued : G.queued ≡ G.rest
-    all_queued = let b = bare in let fits = L.head.fits in omega arith
+    all_queued = let b = bare in let fits = L.list.head.fits in omega arith
 
     -- the rows behind the new dummy
     fewer : (k : ℕ) × (suc k ≡ G.rest)
@@ -117,14 +125,14 @@ module _ (z : Lane) (s : State) (L : Lawful z s) (c : ℕ) where
 
     listed' : Listed z.rows s.memory.link G.path G.chained G.spot (suc G.head) fewer.0
     listed' = let e = same_end in record {
-      joined = λ i from below. L.rows.joined i (omega arith) (omega arith);
-      last = ap (λ (i : ℕ). s.memory.link (G.path i)) e ∙ L.rows.last;
-      spots = λ i from below. L.rows.spots i (omega arith) (omega arith);
-      inside = λ i below. L.rows.inside i (omega arith);
+      joined = λ i from below. L.list.rows.joined i (omega arith) (omega arith);
+      last = ap (λ (i : ℕ). s.memory.link (G.path i)) e ∙ L.list.rows.last;
+      spots = λ i from below. L.list.rows.spots i (omega arith) (omega arith);
+      inside = λ i below. L.list.rows.inside i (omega arith);
     }
 
     items' : ItemRows z G.path (suc G.head) fewer.0 G.shown
-    items' = let e = same_end in λ i above below. L.item_rows i (omega arith) (omega arith)
+    items' = let e = same_end in λ i above below. L.list.item_rows i (omega arith) (omega arith)
 
     headed' : Headed z.first (Node (behind p n)) G.path (suc G.head) fewer.0 G.ann G.shown fewer.0
     headed' = let b = bare in record {
@@ -136,11 +144,11 @@ module _ (z : Lane) (s : State) (L : Lawful z s) (c : ℕ) where
       named = let cnt = count_is in λ i. Node (record { row = sym (next.2 G.head count_is).1 i; count = (let y : p.count + 1 ≡ z.first + suc G.head = omega arith in y) i })
 
     tailed' : Tailed z.first s.memory.tail G.path G.chained (suc G.head) fewer.0 G.tail
-    tailed' = let e = same_end in let cnt = count_is in let a = L.tail.within in let w = past in record {
-      named = L.tail.named;
+    tailed' = let e = same_end in let cnt = count_is in let a = L.list.tail.within in let w = past in record {
+      named = L.list.tail.named;
       after_head = omega arith;
       within = omega arith;
-      lags = λ below single. let b = L.tail.lags (omega arith) single in omega arith;
+      lags = λ below single. let b = L.list.tail.lags (omega arith) single in omega arith;
     }
 
     announced' : Announced z memory' G'
@@ -150,51 +158,65 @@ module _ (z : Lane) (s : State) (L : Lawful z s) (c : ℕ) where
         (λ below is. let x = L.announced.lags (omega arith) is in absurd (none_stands x.0 x.2)) L.announced
 
     pub moved : Lawful z (changed s c memory' (own_group c (s.callers c) ∷ []) (last (Got v ∷ [])))
-    moved = keeps z s L c memory' (own ∷ []) G' (last (Got v ∷ [])) (λ _. ⊥) (λ _ x. absurd x) grows (λ d apart. (refl, mine-push_other s.history own d apart, drafts_same z (world s G) W refl refl refl d))
-        (lands_proper z s L c Deq off.0 op) queue' listed' items' headed' tailed'
-        (let e = same_end in let more = lands_operations z s L c Deq off.0 op in let was = L.counts in omega arith)
-        L.links announced' (λ a at. absurd (none_stands a at)) (λ a waits. absurd (none_stands a (L.announced.waits a waits).0)) (same_unmade z s L c (last (Got v ∷ [])) refl)
-        (lands_groups z s L c Deq off.0 op (Got v ∷ []) right)
-        (allowed_end z c (s.callers c) (L.allowed c))
-        (rest_facts W (Got v ∷ []) grows off since_end (lands_kept z s L c Deq off.0 op (Got v ∷ []) right))
+    moved = keeps z s L c memory' (own ∷ []) G' (last (Got v ∷ [])) (λ _. ⊥) (λ _ x. absurd x) grows (λ d apart. record { landed = refl; made = mine-push_other s.history own d apart; drafts = drafts_same z (world s G) W refl refl refl d; unmade = (L.callers d).unmade })
+        (lands_proper z s L c Deq off.0 op) queue'
+        (record {
+          rows = listed';
+          item_rows = items';
+          head = headed';
+          tail = tailed';
+          counts = let e = same_end in let more = lands_operations z s L c Deq off.0 op in let was = L.list.counts in omega arith;
+          links = L.list.links;
+        })
+        announced' (λ a at. absurd (none_stands a at)) (λ a waits. absurd (none_stands a (L.announced.waits a waits).0))
+        (record {
+          unmade = (L.callers c).unmade;
+          own_groups = lands_groups z s L c Deq off.0 op (Got v ∷ []) right;
+          allowed = allowed_end z c (s.callers c) (L.callers c).allowed;
+          knows = rest_facts W (Got v ∷ []) grows off since_end (lands_kept z s L c Deq off.0 op (Got v ∷ []) right);
+        })
 
-  move_head : (p : Place) (n v : ℕ) (x : HeadWord) → s.memory.head ≡ x → (b : Bool) → is_node x p ≡ b → Each z (world s L.ghost) c (turn_facts z c (s.callers c) (MoveHead p n v))
+  move_head : (p : Place) (n v : ℕ) (x : HeadWord) → s.memory.head ≡ x → (b : Bool) → is_node x p ≡ b → AtTurn z (world s L.ghost) c (s.callers c) (turn.Dequeue (deq.MoveHead p n v))
       → Lawful z (changed s c (write s.memory Head (cond b (OfHead (Node (behind p n))) (OfHead x))) (cond b (own ∷ []) [])
-      (cond b (ended (length (s.history ++ cond b (own ∷ []) [])) c (s.callers c) (Got v ∷ [])) (turned (s.callers c) DeqHead)))
-  move_head p n v x is false apart f = quiet z s L c DeqHead Head (OfHead x) (ap OfHead is) (f.0, (f.1.0, tt))
-  move_head p n v (Node q) is true same f = moved p n v f.0 f.1.0 f.1.1.0 f.1.1.1.0 f.1.1.1.1.0 (is ∙ ap Node (same_places q p same))
+      (followed (length (s.history ++ cond b (own ∷ []) [])) c (s.callers c) (cond b (Ends (Got v)) (GoesOn (turn.Dequeue deq.LoadHead)))))
+  move_head p n v x is false apart f = quiet z s L c (turn.Dequeue deq.LoadHead) Head (OfHead x) (ap OfHead is) (record { call = f.call; here = tt })
+  move_head p n v (Node q) is true same f = moved p n v f.call.0 f.call.1.0 f.here.0 f.here.1.0 f.here.1.1.0 (is ∙ ap Node (same_places q p same))
   move_head p n v (Ann a m) is true same f = absurd (cc same)
 
-  pub keeps_move_head : (p : Place) (n v : ℕ) → (s.callers c).turn ≡ MoveHead p n v → Lawful z (step_at z s c (MoveHead p n v))
-  keeps_move_head p n v is = move_head p n v s.memory.head refl (is_node s.memory.head p) refl (known z s L c (MoveHead p n v) is)
+  pub keeps_move_head : (p : Place) (n v : ℕ) → (s.callers c).turn ≡ turn.Dequeue (deq.MoveHead p n v) → Lawful z (step_at z s c (turn.Dequeue (deq.MoveHead p n v)))
+  keeps_move_head p n v is = move_head p n v s.memory.head refl (is_node s.memory.head p) refl (known z s L c (turn.Dequeue (deq.MoveHead p n v)) is)
 
   -- the queue is empty: the command lands and ends
-  empty : (p : Place) → s.memory.link p.row ≡ Nil → Each z (world s L.ghost) c (turn_facts z c (s.callers c) (DeqLink p)) → Lawful z (step_with z s c (DeqLink p) (OfLink Nil))
-  empty p nil (off, (op, (f, (seen, rest)))) = subst (λ (m : Memory). Lawful z (changed s c m (own ∷ []) (last (Empty ∷ [])))) (sym (ap (write s.memory (Link p.row)) (ap OfLink (sym nil)) ∙ write_read s.memory (Link p.row)))
-      (keeps z s L c s.memory (own ∷ []) G (last (Empty ∷ [])) (λ _. ⊥) (λ _ x. absurd x) grows (λ d apart. (refl, mine-push_other s.history own d apart, drafts_same z (world s G) record { memory = s.memory; history = s.history ++ own ∷ []; ghost = G } refl refl refl d))
-      (lands_proper z s L c Deq off.0 op) queue' L.rows L.item_rows L.head L.tail
-      (let more = lands_operations z s L c Deq off.0 op in let was = L.counts in omega arith)
-      L.links L.announced (told_plain z s L c s.memory G (last (Empty ∷ [])) off.1 L.told) (waits_plain z s L c s.memory G (last (Empty ∷ [])) off.1 (waits_there z s L c) L.pending) (same_unmade z s L c (last (Empty ∷ [])) refl)
-      (lands_groups z s L c Deq off.0 op (Empty ∷ []) right)
-      (allowed_end z c (s.callers c) (L.allowed c))
-      (rest_facts (record { memory = s.memory; history = s.history ++ own ∷ []; ghost = G }) (Empty ∷ []) grows off since_end (lands_kept z s L c Deq off.0 op (Empty ∷ []) right))) where
+  empty : (p : Place) → s.memory.link p.row ≡ Nil → AtTurn z (world s L.ghost) c (s.callers c) (turn.Dequeue (deq.LoadLink p)) → Lawful z (step_with z s c (turn.Dequeue (deq.LoadLink p)) (OfLink Nil))
+  empty p nil known = subst (λ (m : Memory). Lawful z (changed s c m (own ∷ []) (last (Empty ∷ [])))) (sym (ap (write s.memory (Link p.row)) (ap OfLink (sym nil)) ∙ write_read s.memory (Link p.row)))
+      (keeps z s L c s.memory (own ∷ []) G (last (Empty ∷ [])) (λ _. ⊥) (λ _ x. absurd x) grows (λ d apart. record { landed = refl; made = mine-push_other s.history own d apart; drafts = drafts_same z (world s G) record { memory = s.memory; history = s.history ++ own ∷ []; ghost = G } refl refl refl d; unmade = (L.callers d).unmade })
+      (lands_proper z s L c Deq known.call.0.0 known.call.1.0) queue'
+      (record { rows = L.list.rows; item_rows = L.list.item_rows; head = L.list.head; tail = L.list.tail; counts = let more = lands_operations z s L c Deq known.call.0.0 known.call.1.0 in let was = L.list.counts in omega arith; links = L.list.links })
+      L.announced (told_plain z s L c s.memory G (last (Empty ∷ [])) known.call.0.1 L.told) (waits_plain z s L c s.memory G (last (Empty ∷ [])) known.call.0.1 (waits_there z s L c) L.pending)
+      (record {
+        unmade = (L.callers c).unmade;
+        own_groups = lands_groups z s L c Deq known.call.0.0 known.call.1.0 (Empty ∷ []) right;
+        allowed = allowed_end z c (s.callers c) (L.callers c).allowed;
+        knows =
+            rest_facts (record { memory = s.memory; history = s.history ++ own ∷ []; ghost = G }) (Empty ∷ []) grows known.call.0 since_end (lands_kept z s L c Deq known.call.0.0 known.call.1.0 (Empty ∷ []) right);
+      })) where
         grows : Grows z (λ _. ⊥) (world s G) record { memory = s.memory; history = s.history ++ own ∷ []; ghost = G }
         grows = grows_history z s G G.landed (own ∷ [])
 
         none : last_queue s.history ≡ []
-        none = let end = is_last z s L c p f nil in let seen' = seen in let count = f.1 in let fits = L.head.fits in L.queue ∙ ap (run (λ i. s.memory.value (G.path i)) (suc (G.head + G.shown))) (let e : G.queued ≡ 0 = omega arith in e)
+        none = let end = is_last z s L c p known.here.0 nil in let seen' = known.here.1.0 in let count = known.here.0.1 in let fits = L.list.head.fits in L.queue ∙ ap (run (λ i. s.memory.value (G.path i)) (suc (G.head + G.shown))) (let e : G.queued ≡ 0 = omega arith in e)
 
         queue' : last_queue (s.history ++ own ∷ []) ≡ shown_queue s.memory.value G
-        queue' = last_queue-push s.history own ∙ (ap (queue_from (last_queue s.history)) op.0 ∙ (ap (λ (q : List ℕ). queue_from q (Deq ∷ [])) none ∙ (sym none ∙ L.queue)))
+        queue' = last_queue-push s.history own ∙ (ap (queue_from (last_queue s.history)) known.call.1.0.0 ∙ (ap (λ (q : List ℕ). queue_from q (Deq ∷ [])) none ∙ (sym none ∙ L.queue)))
 
         right : Empty ∷ [] ≡ answers_from (last_queue s.history) (Deq ∷ [])
         right = ap (λ (q : List ℕ). answers_from q (Deq ∷ [])) (sym none)
 
-  deq_link : (p : Place) (x : LinkWord) → s.memory.link p.row ≡ x → Each z (world s L.ghost) c (turn_facts z c (s.callers c) (DeqLink p)) → Lawful z (step_with z s c (DeqLink p) (OfLink x))
+  deq_link : (p : Place) (x : LinkWord) → s.memory.link p.row ≡ x → AtTurn z (world s L.ghost) c (s.callers c) (turn.Dequeue (deq.LoadLink p)) → Lawful z (step_with z s c (turn.Dequeue (deq.LoadLink p)) (OfLink x))
   deq_link p Nil is f = empty p is f
   deq_link p (Single n) is f = deq_single z s L c p n is f
   deq_link p (Chain n) is f = deq_chain z s L c p n is f
   deq_link p Shut is f = deq_shut z s L c p is f
 
-  pub keeps_deq_link : (p : Place) → (s.callers c).turn ≡ DeqLink p → Lawful z (step_at z s c (DeqLink p))
-  keeps_deq_link p is = deq_link p (s.memory.link p.row) refl (known z s L c (DeqLink p) is)
+  pub keeps_deq_link : (p : Place) → (s.callers c).turn ≡ turn.Dequeue (deq.LoadLink p) → Lawful z (step_at z s c (turn.Dequeue (deq.LoadLink p)))
+  keeps_deq_link p is = deq_link p (s.memory.link p.row) refl (known z s L c (turn.Dequeue (deq.LoadLink p)) is)

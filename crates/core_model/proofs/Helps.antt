@@ -11,17 +11,20 @@ use Rattle.word_rows.specs.declared.location.AnnField.TheVariants as field
 use Rattle.word_rows.specs.declared.location.Location.TheVariants.{Tail, Link, AnnWord}
 use Rattle.word_rows.specs.declared.content.Content.TheVariants.{OfHead, OfTail, OfLink, OfOldTail, OfChainEnd, OfCounts}
 use Rattle.core_model.specs.declared.turn.Help.{Help}
-use Rattle.core_model.specs.declared.turn.Turn.TheVariants.{HelpOldHead, HelpFirst, HelpLast, HelpCounts, HelpTail, HelpOldTail, HelpLink, LinkChain, HelpPass, RecordTail, HelpOver}
+use Rattle.core_model.specs.declared.turn.Turn.TheVariants as turn
+use Rattle.core_model.specs.declared.turn.HelpPoint.TheVariants as help
 use Rattle.core_model.specs.Functions.{put}
 use Rattle.core_model.specs.Lane.{Lane}
 use Rattle.core_model.specs.State.{Memory, State, write}
-use Rattle.core_model.specs.Step.{turned, same_place, step_with, step_at}
+use Rattle.core_model.specs.Act.{same_place}
+use Rattle.core_model.specs.Fact.{reads, linked, stands_at, is_old_tail}
+use Rattle.core_model.specs.Step.{turned, step_with, step_at}
+use Rattle.core_model.specs.Facts.{Holds, AtTurn}
 use Rattle.core_model.specs.Ghost.{Stage, unused, waiting, decided, Ghost, World, places, at}
-use Rattle.core_model.specs.Facts.{reads, linked, stands_at, is_old_tail, Holds, Each, turn_facts, facts}
 use Rattle.core_model.specs.Lawful.{Lawful}
 use Rattle.core_model.proofs.Puts.{put_here, put_else, put_all}
-use Rattle.core_model.proofs.Stays.{world, unused_decides, waits_decides, one_place, one_some, some_none, anns_moved, Grows, all_stay}
-use Rattle.core_model.proofs.Keeps.{known, quiet, turns, changed}
+use Rattle.core_model.proofs.Stays.{world, unused_decides, waits_decides, one_place, one_some, some_none, anns_moved, Grows}
+use Rattle.core_model.proofs.Keeps.{caller_stays, known, quiet, turns, changed}
 use Rattle.core_model.proofs.Loads.{on_list, next_found}
 use Rattle.core_model.proofs.Tails.{exchanges, with_memory}
 
@@ -37,95 +40,95 @@ module _ (z : Lane) (s : State) (L : Lawful z s) (c : ℕ) where
   abbrev G : Ghost
   G = L.ghost
 
-  pub keeps_help_old_head : (h : Help) → (s.callers c).turn ≡ HelpOldHead h → Lawful z (step_at z s c (HelpOldHead h))
-  keeps_help_old_head h is = let f = known z s L c (HelpOldHead h) is in let r = f.0 in
-      quiet z s L c (HelpFirst (record h { old_head = (s.memory.said h.ann).old_head })) (AnnWord h.ann field.OldHead) (OfHead (Node (s.memory.said h.ann).old_head)) refl
-      ((r.0, r.1, (λ _. refl), (λ l. absurd (omega arith)), (λ l. absurd (omega arith)), λ l. absurd (omega arith)), f.1)
+  pub keeps_help_old_head : (h : Help) → (s.callers c).turn ≡ turn.Help h help.LoadOldHead → Lawful z (step_at z s c (turn.Help h help.LoadOldHead))
+  keeps_help_old_head h is = let f = known z s L c (turn.Help h help.LoadOldHead) is in let r = f.call.0 in
+      quiet z s L c (turn.Help (record h { old_head = (s.memory.said h.ann).old_head }) help.LoadFirst) (AnnWord h.ann field.OldHead) (OfHead (Node (s.memory.said h.ann).old_head)) refl
+      (record { call = (record { installed = r.installed; inside = r.inside; old_head = λ _. refl; first = λ l. absurd (omega arith); last = λ l. absurd (omega arith); counts = λ l. absurd (omega arith) }, f.call.1); here = tt })
 
-  pub keeps_help_first : (h : Help) → (s.callers c).turn ≡ HelpFirst h → Lawful z (step_at z s c (HelpFirst h))
-  keeps_help_first h is = let f = known z s L c (HelpFirst h) is in let r = f.0 in
-      quiet z s L c (HelpLast (record h { first = (s.memory.said h.ann).first })) (AnnWord h.ann field.First) (OfChainEnd (s.memory.said h.ann).first) refl
-      ((r.0, r.1, (λ _. r.2 (omega arith)), (λ _. refl), (λ l. absurd (omega arith)), λ l. absurd (omega arith)), f.1)
+  pub keeps_help_first : (h : Help) → (s.callers c).turn ≡ turn.Help h help.LoadFirst → Lawful z (step_at z s c (turn.Help h help.LoadFirst))
+  keeps_help_first h is = let f = known z s L c (turn.Help h help.LoadFirst) is in let r = f.call.0 in
+      quiet z s L c (turn.Help (record h { first = (s.memory.said h.ann).first }) help.LoadLast) (AnnWord h.ann field.First) (OfChainEnd (s.memory.said h.ann).first) refl
+      (record { call = (record { installed = r.installed; inside = r.inside; old_head = λ _. r.old_head (omega arith); first = λ _. refl; last = λ l. absurd (omega arith); counts = λ l. absurd (omega arith) }, f.call.1); here = tt })
 
-  pub keeps_help_last : (h : Help) → (s.callers c).turn ≡ HelpLast h → Lawful z (step_at z s c (HelpLast h))
-  keeps_help_last h is = let f = known z s L c (HelpLast h) is in let r = f.0 in
-      quiet z s L c (HelpCounts (record h { last = (s.memory.said h.ann).last })) (AnnWord h.ann field.Last) (OfChainEnd (s.memory.said h.ann).last) refl
-      ((r.0, r.1, (λ _. r.2 (omega arith)), (λ _. r.3 (omega arith)), (λ _. refl), λ l. absurd (omega arith)), f.1)
+  pub keeps_help_last : (h : Help) → (s.callers c).turn ≡ turn.Help h help.LoadLast → Lawful z (step_at z s c (turn.Help h help.LoadLast))
+  keeps_help_last h is = let f = known z s L c (turn.Help h help.LoadLast) is in let r = f.call.0 in
+      quiet z s L c (turn.Help (record h { last = (s.memory.said h.ann).last }) help.LoadCounts) (AnnWord h.ann field.Last) (OfChainEnd (s.memory.said h.ann).last) refl
+      (record { call = (record { installed = r.installed; inside = r.inside; old_head = λ _. r.old_head (omega arith); first = λ _. r.first (omega arith); last = λ _. refl; counts = λ l. absurd (omega arith) }, f.call.1); here = tt })
 
-  pub keeps_help_counts : (h : Help) → (s.callers c).turn ≡ HelpCounts h → Lawful z (step_at z s c (HelpCounts h))
-  keeps_help_counts h is = let f = known z s L c (HelpCounts h) is in let r = f.0 in
-      quiet z s L c (HelpTail (record h { counts = (s.memory.said h.ann).counts })) (AnnWord h.ann field.Counts) (OfCounts (s.memory.said h.ann).counts) refl
-      ((r.0, r.1, (λ _. r.2 (omega arith)), (λ _. r.3 (omega arith)), (λ _. r.4 (omega arith)), λ _. refl), f.1)
+  pub keeps_help_counts : (h : Help) → (s.callers c).turn ≡ turn.Help h help.LoadCounts → Lawful z (step_at z s c (turn.Help h help.LoadCounts))
+  keeps_help_counts h is = let f = known z s L c (turn.Help h help.LoadCounts) is in let r = f.call.0 in
+      quiet z s L c (turn.Help (record h { counts = (s.memory.said h.ann).counts }) help.LoadTail) (AnnWord h.ann field.Counts) (OfCounts (s.memory.said h.ann).counts) refl
+      (record { call = (record { installed = r.installed; inside = r.inside; old_head = λ _. r.old_head (omega arith); first = λ _. r.first (omega arith); last = λ _. r.last (omega arith); counts = λ _. refl }, f.call.1); here = tt })
 
-  pub keeps_help_tail : (h : Help) → (s.callers c).turn ≡ HelpTail h → Lawful z (step_at z s c (HelpTail h))
-  keeps_help_tail h is = let f = known z s L c (HelpTail h) is in let within = L.tail.within in let from = L.tail.after_head in let count = ap (λ (p : Place). p.count) L.tail.named in
-      quiet z s L c (HelpOldTail h s.memory.tail) Tail (OfTail s.memory.tail) refl
-      (f.0, (on_list z s L c s.memory.tail G.tail count (ap (λ (p : Place). p.row) L.tail.named) from (omega arith), (omega arith, ((f.0.0, λ _. omega arith), f.1))))
+  pub keeps_help_tail : (h : Help) → (s.callers c).turn ≡ turn.Help h help.LoadTail → Lawful z (step_at z s c (turn.Help h help.LoadTail))
+  keeps_help_tail h is = let f = known z s L c (turn.Help h help.LoadTail) is in let within = L.list.tail.within in let from = L.list.tail.after_head in let count = ap (λ (p : Place). p.count) L.list.tail.named in
+      quiet z s L c (turn.Help h (help.LoadOldTail s.memory.tail)) Tail (OfTail s.memory.tail) refl
+      (record { call = f.call; here = (on_list z s L c s.memory.tail G.tail count (ap (λ (p : Place). p.row) L.list.tail.named) from (omega arith), (omega arith, ((f.call.0.installed, λ _. omega arith), tt))) })
 
   -- where OldTail isn't known, the tail that was read before is no later than the old tail
-  old_tail_loaded : (h : Help) (p : Place) (x : Option Place) → s.memory.old_tail h.ann ≡ x → Each z (world s L.ghost) c (turn_facts z c (s.callers c) (HelpOldTail h p)) → Lawful z (step_with z s c (HelpOldTail h p) (OfOldTail x))
-  old_tail_loaded h p None is (r, (on, (seen, (stood, rest)))) = quiet z s L c (HelpLink h p) (AnnWord h.ann field.OldTail) (OfOldTail None) (ap OfOldTail is) (
-    r,
-    (
-      on,
+  old_tail_loaded : (h : Help) (p : Place) (x : Option Place) → s.memory.old_tail h.ann ≡ x → AtTurn z (world s L.ghost) c (s.callers c) (turn.Help h (help.LoadOldTail p)) → Lawful z (step_with z s c (turn.Help h (help.LoadOldTail p)) (OfOldTail x))
+  old_tail_loaded h p None is f = quiet z s L c (turn.Help h (help.LoadLink p)) (AnnWord h.ann field.OldTail) (OfOldTail None) (ap OfOldTail is) record {
+    call = f.call;
+    here = (
+      f.here.0,
       (
-        seen,
+        f.here.1.0,
         (
-          stood,
+          f.here.1.1.0,
           (
             (
-              r.0,
-              λ i e. let below = on.2.0 in let count = on.1 in let late = seen in (
+              f.call.0.installed,
+              λ i e. let on = f.here.0 in let below = on.2.0 in let count = on.1 in let late = f.here.1.0 in (
                 omega arith,
                 λ j d. let late_tail = (L.announced.unrecorded h.ann j d is).1 in let b = L.announced.bound h.ann j d in let some = b.some in let within = b.within in omega arith,
               ),
             ),
-            rest,
+            tt,
           ),
         ),
       ),
-    ),
-  )
-  old_tail_loaded h p (Some q) is (r, (on, (seen, (stood, rest)))) = let d = decided_known z s L h.ann q r.0 is in
-      quiet z s L c (HelpOver h q) (AnnWord h.ann field.OldTail) (OfOldTail (Some q)) (ap OfOldTail is) (r, ((d.0, d.1, is), rest))
+    );
+  }
+  old_tail_loaded h p (Some q) is f = let d = decided_known z s L h.ann q f.call.0.installed is in
+      quiet z s L c (turn.Help h (help.LoadTailOver q)) (AnnWord h.ann field.OldTail) (OfOldTail (Some q)) (ap OfOldTail is) (record { call = f.call; here = ((d.0, d.1, is), tt) })
 
-  pub keeps_help_old_tail : (h : Help) (p : Place) → (s.callers c).turn ≡ HelpOldTail h p → Lawful z (step_at z s c (HelpOldTail h p))
-  keeps_help_old_tail h p is = old_tail_loaded h p (s.memory.old_tail h.ann) refl (known z s L c (HelpOldTail h p) is)
+  pub keeps_help_old_tail : (h : Help) (p : Place) → (s.callers c).turn ≡ turn.Help h (help.LoadOldTail p) → Lawful z (step_at z s c (turn.Help h (help.LoadOldTail p)))
+  keeps_help_old_tail h p is = old_tail_loaded h p (s.memory.old_tail h.ann) refl (known z s L c (turn.Help h (help.LoadOldTail p)) is)
 
   -- the link of the row is Chain of First: where the announcement stands, its rows are linked there
   chain_seen : (h : Help) (p : Place) → Holds z (world s L.ghost) c (reads 4 h) → Holds z (world s L.ghost) c (linked p) → Holds z (world s L.ghost) c (stands_at h.ann p) → s.memory.link p.row ≡ Chain h.first
       → Holds z (world s L.ghost) c (is_old_tail h.ann p)
-  chain_seen h p r on stood is = (r.0, λ at_head. by at_head (G.stage h.ann) refl) where
+  chain_seen h p r on stood is = (r.installed, λ at_head. by at_head (G.stage h.ann) refl) where
     next : (suc on.0 < places G) × (G.chained on.0 ≡ true)
     next = (next_found z s L c p h.first true on is).1 on.0 on.1
 
     first_is : G.path (suc on.0) ≡ (s.memory.said h.ann).first
-    first_is = ((next_found z s L c p h.first true on is).0.2 on.0 on.1).1 ∙ sym (r.3 (omega arith))
+    first_is = ((next_found z s L c p h.first true on is).0.2 on.0 on.1).1 ∙ sym (r.first (omega arith))
 
     by : G.ann ≡ Some h.ann → (x : Stage) → G.stage h.ann ≡ x → (i : ℕ) × (G.stage h.ann ≡ decided i) × (i < places G) × (p ≡ at z.first G.path i)
-    by at_head unused e = absurd (r.0 e)
+    by at_head unused e = absurd (r.installed e)
     by at_head waiting e = let P = L.pending h.ann e in let from = stood.1 at_head in let count = on.1 in let below = next.0 in
-        absurd (some_none (sym (L.rows.spots (suc on.0) (omega arith) (omega arith)) ∙ (ap G.spot (first_is ∙ sym P.starts) ∙ P.unlinked 0 P.some)))
+        absurd (some_none (sym (L.list.rows.spots (suc on.0) (omega arith) (omega arith)) ∙ (ap G.spot (first_is ∙ sym P.starts) ∙ P.unlinked 0 P.some)))
     by at_head (decided i) e = let from = stood.1 at_head in let count = on.1 in let below = next.0 in let b = L.announced.bound h.ann i e in let some = b.some in let within = b.within in let after = (L.announced.standing h.ann i at_head e).from in
-        let same = one_some (sym (L.rows.spots (suc i) (omega arith) (omega arith)) ∙ (ap G.spot (b.starts ∙ sym first_is) ∙ L.rows.spots (suc on.0) (omega arith) (omega arith))) in let here : on.0 ≡ i = omega arith in
+        let same = one_some (sym (L.list.rows.spots (suc i) (omega arith) (omega arith)) ∙ (ap G.spot (b.starts ∙ sym first_is) ∙ L.list.rows.spots (suc on.0) (omega arith) (omega arith))) in let here : on.0 ≡ i = omega arith in
         (i, e, omega arith, λ y. record { row = (sym on.2.2 ∙ ap G.path here) y; count = (on.1 ∙ ap (λ (x : ℕ). z.first + x) here) y })
 
-  help_linked : (h : Help) (p : Place) (x : LinkWord) → s.memory.link p.row ≡ x → Each z (world s L.ghost) c (turn_facts z c (s.callers c) (HelpLink h p)) → Lawful z (step_with z s c (HelpLink h p) (OfLink x))
-  help_linked h p Nil is f = quiet z s L c (LinkChain h p) (Link p.row) (OfLink Nil) (ap OfLink is) f
-  help_linked h p (Single n) is (r, (on, (seen, (stood, (ends, rest))))) = let next = next_found z s L c p n false on is in
-      quiet z s L c (HelpPass h p n) (Link p.row) (OfLink (Single n)) (ap OfLink is) (r, (next.0, (next.1, rest)))
-  help_linked h p (Chain n) is (r, (on, (seen, (stood, (ends, rest))))) = by (eqb n h.first) refl where
-    by : (b : Bool) → eqb n h.first ≡ b → Lawful z (changed s c (write s.memory (Link p.row) (OfLink (Chain n))) [] (turned (s.callers c) (cond b (RecordTail h p) (HelpTail h))))
-    by true e = quiet z s L c (RecordTail h p) (Link p.row) (OfLink (Chain n)) (ap OfLink is) (r, (chain_seen h p r on stood (is ∙ ap Chain (eqb-true n h.first e)), rest))
-    by false e = quiet z s L c (HelpTail h) (Link p.row) (OfLink (Chain n)) (ap OfLink is) (r, rest)
-  help_linked h p Shut is (r, (on, (seen, (stood, (ends, rest))))) = quiet z s L c (HelpTail h) (Link p.row) (OfLink Shut) (ap OfLink is) (r, rest)
+  help_linked : (h : Help) (p : Place) (x : LinkWord) → s.memory.link p.row ≡ x → AtTurn z (world s L.ghost) c (s.callers c) (turn.Help h (help.LoadLink p)) → Lawful z (step_with z s c (turn.Help h (help.LoadLink p)) (OfLink x))
+  help_linked h p Nil is f = quiet z s L c (turn.Help h (help.LinkChain p)) (Link p.row) (OfLink Nil) (ap OfLink is) f
+  help_linked h p (Single n) is f = let next = next_found z s L c p n false f.here.0 is in
+      quiet z s L c (turn.Help h (help.PassTail p n)) (Link p.row) (OfLink (Single n)) (ap OfLink is) (record { call = f.call; here = (next.0, (next.1, tt)) })
+  help_linked h p (Chain n) is f = by (eqb n h.first) refl where
+    by : (b : Bool) → eqb n h.first ≡ b → Lawful z (changed s c (write s.memory (Link p.row) (OfLink (Chain n))) [] (turned (s.callers c) (turn.Help h (cond b (help.RecordTail p) help.LoadTail))))
+    by true e = quiet z s L c (turn.Help h (help.RecordTail p)) (Link p.row) (OfLink (Chain n)) (ap OfLink is) (record { call = f.call; here = (chain_seen h p f.call.0 f.here.0 f.here.1.1.0 (is ∙ ap Chain (eqb-true n h.first e)), tt) })
+    by false e = quiet z s L c (turn.Help h help.LoadTail) (Link p.row) (OfLink (Chain n)) (ap OfLink is) (record { call = f.call; here = tt })
+  help_linked h p Shut is f = quiet z s L c (turn.Help h help.LoadTail) (Link p.row) (OfLink Shut) (ap OfLink is) (record { call = f.call; here = tt })
 
-  pub keeps_help_link : (h : Help) (p : Place) → (s.callers c).turn ≡ HelpLink h p → Lawful z (step_at z s c (HelpLink h p))
-  keeps_help_link h p is = help_linked h p (s.memory.link p.row) refl (known z s L c (HelpLink h p) is)
+  pub keeps_help_link : (h : Help) (p : Place) → (s.callers c).turn ≡ turn.Help h (help.LoadLink p) → Lawful z (step_at z s c (turn.Help h (help.LoadLink p)))
+  keeps_help_link h p is = help_linked h p (s.memory.link p.row) refl (known z s L c (turn.Help h (help.LoadLink p)) is)
 
-  pub keeps_help_pass : (h : Help) (p : Place) (n : ℕ) → (s.callers c).turn ≡ HelpPass h p n → Lawful z (step_at z s c (HelpPass h p n))
-  keeps_help_pass h p n is = let f = known z s L c (HelpPass h p n) is in exchanges z s L c p n (turned (s.callers c) (HelpTail h)) f.1.0 f.1.1.0
-      (λ memory l. let k = known z (with_memory z s L c memory) l c (HelpPass h p n) is in turns z (with_memory z s L c memory) l c (HelpTail h) (k.0, k.1.1.1)) (same_place s.memory.tail p) refl
+  pub keeps_help_pass : (h : Help) (p : Place) (n : ℕ) → (s.callers c).turn ≡ turn.Help h (help.PassTail p n) → Lawful z (step_at z s c (turn.Help h (help.PassTail p n)))
+  keeps_help_pass h p n is = let f = known z s L c (turn.Help h (help.PassTail p n)) is in exchanges z s L c p n (turned (s.callers c) (turn.Help h help.LoadTail)) f.here.0 f.here.1.0
+      (λ memory l. let k = known z (with_memory z s L c memory) l c (turn.Help h (help.PassTail p n)) is in turns z (with_memory z s L c memory) l c (turn.Help h help.LoadTail) (record { call = k.call; here = tt })) (same_place s.memory.tail p) refl
 
   -- OldTail is recorded
   module _ (a : ℕ) (p : Place) (old : Holds z (world s L.ghost) c (is_old_tail a p)) (none : s.memory.old_tail a ≡ None) where
@@ -172,12 +175,7 @@ module _ (z : Lane) (s : State) (L : Lawful z s) (c : ℕ) where
       ghost = G;
       history = L.history;
       queue = L.queue;
-      rows = L.rows;
-      item_rows = L.item_rows;
-      head = L.head;
-      tail = L.tail;
-      counts = L.counts;
-      links = L.links;
+      list = L.list;
       announced = let A = L.announced in record {
         inside = A.inside;
         installed = A.installed;
@@ -194,19 +192,16 @@ module _ (z : Lane) (s : State) (L : Lawful z s) (c : ℕ) where
       };
       told = L.told;
       pending = L.pending;
-      unmade = L.unmade;
-      own_groups = L.own_groups;
-      allowed = L.allowed;
-      kept_facts = λ d. all_stay z (λ _. ⊥) (world s G) R recording d (λ _ _ x. x) refl (λ x _ u. (u, refl, put_else s.memory.old_tail a (Some p) x (apart x u))) (facts z d (s.callers d)) (L.kept_facts d);
+      callers = λ d. caller_stays z (λ _. ⊥) (world s G) R recording d (s.callers d) (λ _ _ x. x) (record { landed = refl; made = refl; drafts = λ x _ u. (u, refl, put_else s.memory.old_tail a (Some p) x (apart x u)); unmade = (L.callers d).unmade }) (L.callers d);
     }
 
-  tail_recorded : (h : Help) (p : Place) (x : Option Place) → s.memory.old_tail h.ann ≡ x → (s.callers c).turn ≡ RecordTail h p → Lawful z (step_with z s c (RecordTail h p) (OfOldTail x))
-  tail_recorded h p None at_none is = let f = known z s L c (RecordTail h p) is in let m : Memory = record s.memory { old_tail = put s.memory.old_tail h.ann (Some p) } in let s' : State = record { memory = m; history = s.history; callers = s.callers } in
-      let L' : Lawful z s' = recorded h.ann p f.1.0 at_none in let k = known z s' L' c (RecordTail h p) is in let known_tail = put_here s.memory.old_tail h.ann (Some p) in let d = decided_known z s' L' h.ann p k.0.0 known_tail in
-      subst (λ (y : List Group). Lawful z record { memory = m; history = y; callers = put s.callers c (turned (s.callers c) (HelpOver h p)) }) (sym (append-nil s.history))
-      (turns z s' L' c (HelpOver h p) (k.0, ((d.0, d.1, known_tail), k.1.1)))
-  tail_recorded h p (Some q) at_some is = let f = known z s L c (RecordTail h p) is in let d = decided_known z s L h.ann q f.0.0 at_some in
-      quiet z s L c (HelpOver h q) (AnnWord h.ann field.OldTail) (OfOldTail (Some q)) (ap OfOldTail at_some) (f.0, ((d.0, d.1, at_some), f.1.1))
+  tail_recorded : (h : Help) (p : Place) (x : Option Place) → s.memory.old_tail h.ann ≡ x → (s.callers c).turn ≡ turn.Help h (help.RecordTail p) → Lawful z (step_with z s c (turn.Help h (help.RecordTail p)) (OfOldTail x))
+  tail_recorded h p None at_none is = let f = known z s L c (turn.Help h (help.RecordTail p)) is in let m : Memory = record s.memory { old_tail = put s.memory.old_tail h.ann (Some p) } in let s' : State = record { memory = m; history = s.history; callers = s.callers } in
+      let L' : Lawful z s' = recorded h.ann p f.here.0 at_none in let k = known z s' L' c (turn.Help h (help.RecordTail p)) is in let known_tail = put_here s.memory.old_tail h.ann (Some p) in let d = decided_known z s' L' h.ann p k.call.0.installed known_tail in
+      subst (λ (y : List Group). Lawful z record { memory = m; history = y; callers = put s.callers c (turned (s.callers c) (turn.Help h (help.LoadTailOver p))) }) (sym (append-nil s.history))
+      (turns z s' L' c (turn.Help h (help.LoadTailOver p)) (record { call = k.call; here = ((d.0, d.1, known_tail), tt) }))
+  tail_recorded h p (Some q) at_some is = let f = known z s L c (turn.Help h (help.RecordTail p)) is in let d = decided_known z s L h.ann q f.call.0.installed at_some in
+      quiet z s L c (turn.Help h (help.LoadTailOver q)) (AnnWord h.ann field.OldTail) (OfOldTail (Some q)) (ap OfOldTail at_some) (record { call = f.call; here = ((d.0, d.1, at_some), tt) })
 
-  pub keeps_record_tail : (h : Help) (p : Place) → (s.callers c).turn ≡ RecordTail h p → Lawful z (step_at z s c (RecordTail h p))
+  pub keeps_record_tail : (h : Help) (p : Place) → (s.callers c).turn ≡ turn.Help h (help.RecordTail p) → Lawful z (step_at z s c (turn.Help h (help.RecordTail p)))
   keeps_record_tail h p is = tail_recorded h p (s.memory.old_tail h.ann) refl is

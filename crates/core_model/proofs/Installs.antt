@@ -20,24 +20,29 @@ use Rattle.core_model.specs.declared.turn.Notice.{Notice}
 use Rattle.core_model.specs.declared.turn.Draft.{Draft}
 use Rattle.core_model.specs.declared.turn.Back.TheVariants as back
 use Rattle.core_model.specs.declared.turn.Turn.{Turn}
-use Rattle.core_model.specs.declared.turn.Turn.TheVariants.{BatchHead, Install, HelpOldHead}
+use Rattle.core_model.specs.declared.turn.BatchPoint.TheVariants as batch
+use Rattle.core_model.specs.declared.turn.Turn.TheVariants as turn
+use Rattle.core_model.specs.declared.turn.HelpPoint.TheVariants as help
 use Rattle.core_model.specs.Functions.{put, run}
 use Rattle.core_model.specs.Lane.{Lane, item, IsItem}
 use Rattle.core_model.specs.Batches.{own_ann, owner_of}
 use Rattle.core_model.specs.State.{Memory, Caller, command, State, write}
-use Rattle.core_model.specs.Step.{is_node, turned, help_of, step_at}
+use Rattle.core_model.specs.Act.{is_node}
+use Rattle.core_model.specs.Fact.{landed_is, drafts, fills}
+use Rattle.core_model.specs.Help.{help_of}
+use Rattle.core_model.specs.Step.{turned, step_at}
+use Rattle.core_model.specs.Facts.{Holds, AtTurn}
 use Rattle.core_model.specs.Ghost.{Stage, unused, waiting, decided, Ghost, World, at}
 use Rattle.core_model.specs.Kept.{Kept}
-use Rattle.core_model.specs.Facts.{landed_is, drafts, fills, Holds, Each, turn_facts}
 use Rattle.core_model.specs.Lawful.{shown_queue, Headed, Announced, Told, IsTold, Pending, Waits, Unmade, Lawful}
-use Rattle.core_model.proofs.Puts.{put_here, put_else, put_all}
+use Rattle.core_model.proofs.Puts.{put_here, put_else}
 use Rattle.core_model.proofs.Stays.{world, unused_waits, unused_decides, waits_decides, one_some, some_none, Grows, owns_stays}
 use Rattle.core_model.proofs.Keeps.{kept_turned, known, quiet, keeps, changed, same_places}
 use Rattle.core_model.proofs.Loads.{node_found}
 use Rattle.core_model.proofs.Batches.{run_of, length-enqueued, still}
 
 module _ (z : Lane) (s : State) (L : Lawful z s) (c : ℕ) where
-  module _ (d : Draft) (f : Each z (world s L.ghost) c (turn_facts z c (s.callers c) (Install d))) (head : s.memory.head ≡ Node d.notice.old_head) where
+  module _ (d : Draft) (f : AtTurn z (world s L.ghost) c (s.callers c) (turn.Batch d batch.Install)) (head : s.memory.head ≡ Node d.notice.old_head) where
     abbrev G : Ghost
     G = L.ghost
 
@@ -51,24 +56,24 @@ module _ (z : Lane) (s : State) (L : Lawful z s) (c : ℕ) where
     n = d.notice
 
     off : Holds z (world s L.ghost) c (landed_is false)
-    off = f.1.0
+    off = f.call.0
 
     is : Holds z (world s L.ghost) c (drafts (command (s.callers c)) d)
-    is = f.1.1.0
+    is = f.call.1.0
 
     rows : Holds z (world s L.ghost) c (fills (s.callers c).taken d.notice (s.callers c).ops d.notice.counts.enqs (d.notice.counts.enqs - 1))
-    rows = f.1.1.1.0
+    rows = f.here.1.0
 
     fresh : G.stage a ≡ unused
-    fresh = f.0.0
+    fresh = f.here.0.0
 
     own : owner_of z a ≡ c
-    own = f.0.1
+    own = f.here.0.1
 
     -- all its words are written
     says : s.memory.said a ≡ n
-    says = let w = f.1.1.1.1.0.2 in λ i. record {
-      old_head = f.0.2 i;
+    says = let w = f.here.1.1.0.2 in λ i. record {
+      old_head = f.here.0.2 i;
       first = w.1.1.1.1.1.1.1.0 i;
       last = w.1.1.1.1.1.1.0 i;
       counts = w.1.1.1.1.1.0 i;
@@ -80,7 +85,7 @@ module _ (z : Lane) (s : State) (L : Lawful z s) (c : ℕ) where
     }
 
     unknown : s.memory.old_tail a ≡ None
-    unknown = f.1.1.1.1.0.2.1.1.1.1.1.1.1.1.0
+    unknown = f.here.1.1.0.2.1.1.1.1.1.1.1.1.0
 
     alone : G.ann ≡ None
     alone = (node_found z s L c n.old_head head).0
@@ -122,7 +127,7 @@ module _ (z : Lane) (s : State) (L : Lawful z s) (c : ℕ) where
     W = record { memory = memory'; history = s.history ++ []; ghost = G' }
 
     abbrev t' : Turn
-    t' = HelpOldHead (help_of a back.Own)
+    t' = turn.Help (help_of a back.Own) help.LoadOldHead
 
     abbrev k' : Caller
     k' = turned me t'
@@ -152,14 +157,14 @@ module _ (z : Lane) (s : State) (L : Lawful z s) (c : ℕ) where
     }
 
     headed' : Headed z.first (Ann a n.old_head.count) G.path G.head G.rest (Some a) G.shown G.queued
-    headed' = record { named = ap (λ (p : Place). Ann a p.count) old_head_at; none = λ e. absurd (some_none e); fits = L.head.fits }
+    headed' = record { named = ap (λ (p : Place). Ann a p.count) old_head_at; none = λ e. absurd (some_none e); fits = L.list.head.fits }
 
     announced' : Announced z memory' G'
     announced' = let A = L.announced in record {
       inside = λ x e. subst (λ (y : ℕ). y < z.callers * z.callers) (one_some e) is.5;
       installed = λ x e u. unused_waits u (ap stage' (sym (one_some e)) ∙ stage_here);
-      old_head = λ x e. ap (λ (y : ℕ). (s.memory.said y).old_head) (sym (one_some e)) ∙ (f.0.2 ∙ old_head_at);
-      waits = λ x e. (ap Some (sym (is_a x e)), L.head.none alone);
+      old_head = λ x e. ap (λ (y : ℕ). (s.memory.said y).old_head) (sym (one_some e)) ∙ (f.here.0.2 ∙ old_head_at);
+      waits = λ x e. (ap Some (sym (is_a x e)), L.list.head.none alone);
       bound = λ x i e. A.bound x i (old_decided x i e);
       standing = λ x i at e. absurd (other x (λ u. unused_decides u (old_decided x i e)) (sym (one_some at)));
       unknown = λ x e. ap s.memory.old_tail (is_a x e) ∙ unknown;
@@ -205,41 +210,41 @@ module _ (z : Lane) (s : State) (L : Lawful z s) (c : ℕ) where
         (subst (λ (y : Notice × Caller). Told s.memory.value G.path (stage' a) y.0 c y.1) (λ i. (sym says i, sym (put_here s.callers c k') i)) told_here))
 
     -- an announcement that wasn't made is another one
-    unmade' : (e : ℕ) → Unmade z stage' e (put s.callers c k' e)
-    unmade' = put_all s.callers c k' (λ e y. Unmade z stage' e y) (λ i from below. stage_else (own_ann z c i) (is.4 i from) ∙ L.unmade c i from below)
-        (λ e ne i from below. stage_else (own_ann z e i) (λ same. ne (sym (div-mul-add e z.callers i below) ∙ (ap (owner_of z) same ∙ own))) ∙ L.unmade e i from below)
+    unmade' : (e : ℕ) → e ≢ c → Unmade z stage' e (s.callers e)
+    unmade' e ne i from below = stage_else (own_ann z e i) (λ same. ne (sym (div-mul-add e z.callers i below) ∙ (ap (owner_of z) same ∙ own))) ∙ (L.callers e).unmade i from below
 
     pub installed : Lawful z (changed s c memory' [] k')
     installed = keeps z s L c memory' [] G' k' (λ _. ⊥) (λ _ x. absurd x) installing
-        (λ e ne. (refl, ap (λ (h : List Group). mine h e) (append-nil s.history), λ x at u. (stage_else x (λ same. ne (sym at ∙ (ap (owner_of z) same ∙ own))) ∙ u, refl, refl)))
+        (λ e ne. record { landed = refl; made = ap (λ (h : List Group). mine h e) (append-nil s.history); drafts = λ x at u. (stage_else x (λ same. ne (sym at ∙ (ap (owner_of z) same ∙ own))) ∙ u, refl, refl); unmade = unmade' e ne })
         (still z s L c (IsProper z.callers) L.history)
         (still z s L c (λ h. last_queue h ≡ shown_queue s.memory.value G) L.queue)
-        L.rows L.item_rows headed' L.tail
-        (still z s L c (λ h. G.head + G.rest ≤ length (operations h)) L.counts)
-        L.links announced' told' pending' unmade'
-        (ap (λ (h : List Group). mine h c) (append-nil s.history) ∙ L.own_groups c)
-        (L.allowed c)
-        (let k = L.kept_facts c in (
-          (λ i from below known. owns_stays z (λ _. ⊥) (world s G) W installing c (item z c i) (λ x. x) (k.0 i from below known)),
-          (
-            still z s L c (λ h. me.started_at ≤ length h) k.1.0,
-            (
-              still z s L c (λ h. Kept h c k') (kept_turned s.history c me t' me.values k.1.1.0),
-              (
-                (there, is.5, (λ l. absurd (omega arith)), (λ l. absurd (omega arith)), (λ l. absurd (omega arith)), λ l. absurd (omega arith)),
+        (record { rows = L.list.rows; item_rows = L.list.item_rows; head = headed'; tail = L.list.tail; counts = still z s L c (λ h. G.head + G.rest ≤ length (operations h)) L.list.counts; links = L.list.links })
+        announced' told' pending'
+        (let k = (L.callers c).knows in record {
+          unmade = λ i from below. stage_else (own_ann z c i) (is.4 i from) ∙ (L.callers c).unmade i from below;
+          own_groups = ap (λ (h : List Group). mine h c) (append-nil s.history) ∙ (L.callers c).own_groups;
+          allowed = (L.callers c).allowed;
+          knows = record {
+            unused = λ i from below known. owns_stays z (λ _. ⊥) (world s G) W installing c (item z c i) (λ x. x) (k.unused i from below known);
+            started = still z s L c (λ h. me.started_at ≤ length h) k.started;
+            last = still z s L c (λ h. Kept h c k') (kept_turned s.history c me t' me.values k.last);
+            at_turn = record {
+              call = (
+                record { installed = there; inside = is.5; old_head = λ l. absurd (omega arith); first = λ l. absurd (omega arith); last = λ l. absurd (omega arith); counts = λ l. absurd (omega arith) },
                 ((there, own, (λ i e. absurd (waits_decides stage_here e)), λ x at _. sym (one_some at)), tt),
-              ),
-            ),
-          ),
-        )) where
+              );
+              here = tt;
+            };
+          };
+        }) where
           there : stage' a ≢ unused
           there u = unused_waits u stage_here
 
-  install_found : (d : Draft) (x : HeadWord) → s.memory.head ≡ x → (b : Bool) → is_node x d.notice.old_head ≡ b → Each z (world s L.ghost) c (turn_facts z c (s.callers c) (Install d))
-      → Lawful z (changed s c (write s.memory Head (cond b (OfHead (Ann d.ann d.notice.old_head.count)) (OfHead x))) [] (cond b (turned (s.callers c) (HelpOldHead (help_of d.ann back.Own))) (turned (s.callers c) (BatchHead d))))
-  install_found d x at false _ f = quiet z s L c (BatchHead d) Head (OfHead x) (ap OfHead at) f.1
+  install_found : (d : Draft) (x : HeadWord) → s.memory.head ≡ x → (b : Bool) → is_node x d.notice.old_head ≡ b → AtTurn z (world s L.ghost) c (s.callers c) (turn.Batch d batch.Install)
+      → Lawful z (changed s c (write s.memory Head (cond b (OfHead (Ann d.ann d.notice.old_head.count)) (OfHead x))) [] (turned (s.callers c) (cond b (turn.Help (help_of d.ann back.Own) help.LoadOldHead) (turn.Batch d batch.LoadHead))))
+  install_found d x at false _ f = quiet z s L c (turn.Batch d batch.LoadHead) Head (OfHead x) (ap OfHead at) (record { call = f.call; here = f.here.1 })
   install_found d (Node p) at true same f = installed d f (at ∙ ap Node (same_places p d.notice.old_head same))
   install_found d (Ann y m) at true same f = absurd (cc same)
 
-  pub keeps_install : (d : Draft) → (s.callers c).turn ≡ Install d → Lawful z (step_at z s c (Install d))
-  keeps_install d is = install_found d s.memory.head refl (is_node s.memory.head d.notice.old_head) refl (known z s L c (Install d) is)
+  pub keeps_install : (d : Draft) → (s.callers c).turn ≡ turn.Batch d batch.Install → Lawful z (step_at z s c (turn.Batch d batch.Install))
+  keeps_install d is = install_found d s.memory.head refl (is_node s.memory.head d.notice.old_head) refl (known z s L c (turn.Batch d batch.Install) is)

@@ -18,19 +18,27 @@ use Rattle.core_model.specs.declared.turn.Notice.{Notice}
 use Rattle.core_model.specs.declared.turn.Back.{Back}
 use Rattle.core_model.specs.declared.turn.Back.TheVariants as back
 use Rattle.core_model.specs.declared.turn.Turn.{Turn}
-use Rattle.core_model.specs.declared.turn.Turn.TheVariants.{Idle, StoreValue, EnqTail, EnqLink, LinkSingle, EnqPass, EnqLast, EnqHead, DeqHead, DeqLink, DeqTail, DeqOver, DeqPass, DeqValue, MoveHead, BatchValue, BatchChain, BatchField, BatchHead, Install, HelpOldHead, HelpFirst, HelpLast, HelpCounts, HelpTail, HelpOldTail, HelpLink, LinkChain, HelpPass, RecordTail, HelpOver, MoveTailOver, HelpWalk, MoveHeadAnn, AnswerTail, AnswerLink, AnswerValue}
+use Rattle.core_model.specs.declared.turn.Turn.TheVariants.{Idle}
+use Rattle.core_model.specs.declared.turn.Turn.TheVariants as turn
 use Rattle.core_model.specs.Functions.{put}
 use Rattle.core_model.specs.Lane.{Lane}
 use Rattle.core_model.specs.Batches.{owner_of}
-use Rattle.core_model.specs.State.{Memory, Caller, Command, command, State, read, write}
-use Rattle.core_model.specs.Step.{same_place, own_group, turned, turned_with, ended}
+use Rattle.core_model.specs.State.{Memory, Caller, Command, command, State, read, write, own_group}
+use Rattle.core_model.specs.Act.{same_place, location, changes, effect}
+use Rattle.core_model.specs.Fact.{is_op}
+use Rattle.core_model.specs.Help.{back_facts}
+use Rattle.core_model.specs.Step.{turned, turned_with, ended, act, target, grows, lander, course, followed, step_at}
+use Rattle.core_model.specs.Facts.{Holds, Each, AtTurn}
+use Rattle.core_model.specs.declared.act.Act.{Act}
+use Rattle.core_model.specs.declared.act.Act.TheVariants.{Load, Store, Exchange}
+use Rattle.core_model.specs.declared.course.Course.{Course}
+use Rattle.core_model.specs.declared.course.Course.TheVariants.{GoesOn}
 use Rattle.core_model.specs.Ghost.{Stage, waiting, Ghost, World}
 use Rattle.core_model.specs.Kept.{Stands, Kept}
-use Rattle.core_model.specs.Facts.{is_op, Holds, Each, back_facts, turn_facts, facts}
-use Rattle.core_model.specs.Lawful.{shown_queue, Listed, ItemRows, Headed, Tailed, LinksIn, Announced, IsOwn, HelpsOwn, Told, IsTold, Pending, Waits, Unmade, OwnGroups, Allowed, Lawful}
+use Rattle.core_model.specs.Lawful.{shown_queue, InOrder, Announced, IsOwn, HelpsOwn, Told, IsTold, Pending, Waits, Unmade, OwnGroups, Allowed, OfCaller, Lawful}
 use Rattle.core_model.proofs.Puts.{put_here, put_else, put_all, put_same}
 use Rattle.core_model.proofs.Groups.{mine-push_own, length-operations-push, enqueues-push, many-push, proper-push}
-use Rattle.core_model.proofs.Stays.{world, anns_same, Drafts, Grows, all_stay}
+use Rattle.core_model.proofs.Stays.{world, anns_same, Drafts, Grows, knows_stay}
 
 -- the state after a step of caller c
 abbrev pub changed : State → ℕ → Memory → List Group → Caller → State
@@ -55,6 +63,12 @@ write_read m (AnnWord a field.Order0) = λ i. record m { said = put_same m.said 
 write_read m (AnnWord a field.Order1) = λ i. record m { said = put_same m.said a i }
 write_read m (AnnWord a field.Order2) = λ i. record m { said = put_same m.said a i }
 write_read m (AnnWord a field.Order3) = λ i. record m { said = put_same m.said a i }
+
+-- a load, or an exchange that finds something else, leaves the words
+pub leaves : (m : Memory) (a : Act) (x : Content) → read m (location a) ≡ x → changes a x ≡ false → write m (location a) (effect a x) ≡ m
+leaves m (Load l) x is lost = ap (write m l) (sym is) ∙ write_read m l
+leaves m (Store l y) x is lost = absurd (cc lost)
+leaves m (Exchange l old new) x is lost = ap (λ (b : Bool). write m l (cond b new x)) lost ∙ (ap (write m l) (sym is) ∙ write_read m l)
 
 pub same_places : (p q : Place) → same_place p q ≡ true → p ≡ q
 same_places p q e = let both = and_parts (eqb p.row q.row) (eqb p.count q.count) e in λ i. record { row = eqb-true p.row q.row both.0 i; count = eqb-true p.count q.count both.1 i }
@@ -99,6 +113,21 @@ allowed_end z c k A = let within = A.within in let rows = A.rows in let made = l
 pub kept_turned : (h : List Group) (c : ℕ) (k : Caller) (t : Turn) (vs : List ℕ) → Kept h c k → Kept h c (turned_with k t vs)
 kept_turned h c k t vs x = record { none = x.none; done = λ is. let y = x.done is in record { earlier = y.earlier; ops = y.ops; last = y.last; stands = y.stands; timely = y.timely } }
 
+-- what a step leaves of a caller d that isn't its own
+pub record Apart (z : Lane) (a b : World) (d : ℕ) (k : Caller) : Type 0 where
+  pub landed : b.ghost.landed d ≡ a.ghost.landed d
+  pub made : mine b.history d ≡ mine a.history d
+  pub drafts : Drafts z a b d
+  pub unmade : Unmade z b.ghost.stage d k
+
+pub caller_stays : (z : Lane) (Touch : ℕ → Type 0) (a b : World) → Grows z Touch a b → (d : ℕ) (k : Caller) → ((r : ℕ) → z.home r ≡ d → ¬ (Touch r)) → Apart z a b d k → OfCaller z a d k → OfCaller z b d k
+caller_stays z Touch a b g d k off o old = record {
+  unmade = o.unmade;
+  own_groups = o.made ∙ (old.own_groups ∙ ap (λ (b : Bool). k.mine ++ cond b (own_group d k ∷ []) []) (sym o.landed));
+  allowed = old.allowed;
+  knows = knows_stay z Touch a b g d off o.landed o.drafts k old.knows;
+}
+
 module _ (z : Lane) (s : State) (L : Lawful z s) (c : ℕ) where
   abbrev here : World
   here = world s L.ghost
@@ -110,54 +139,23 @@ module _ (z : Lane) (s : State) (L : Lawful z s) (c : ℕ) where
   own = own_group c (s.callers c)
 
   -- what the caller knows at its turn t
-  pub known : (t : Turn) → (s.callers c).turn ≡ t → Each z (world s L.ghost) c (turn_facts z c (s.callers c) t)
-  known t is = subst (λ (u : Turn). Each z here c (turn_facts z c me u)) is (L.kept_facts c).1.1.1
+  pub known : (t : Turn) → (s.callers c).turn ≡ t → AtTurn z (world s L.ghost) c (s.callers c) t
+  known t is = subst (λ (u : Turn). AtTurn z here c me u) is (L.callers c).knows.at_turn
 
   -- who helps its own announcement, or none of its announcements stands
-  back_plain : (m : Command) (a : ℕ) (b : Back) → Each z (world s L.ghost) c (back_facts z c m a b) → Plain z L.ghost c ⊎ IsOwn b
+  back_plain : (m : Command) (a : ℕ) (b : Back) → Each z (world s L.ghost) c (back_facts c m a b) → Plain z L.ghost c ⊎ IsOwn b
   back_plain k a back.Own f = inr tt
   back_plain k a (back.Enqueue x) f = inl f.0.1
   back_plain k a back.Dequeue f = inl f.0.1
   back_plain k a (back.Batch d) f = inl f.0.1
 
-  pub plain_or_own : (k : Caller) (t : Turn) → Each z (world s L.ghost) c (turn_facts z c k t) → Plain z L.ghost c ⊎ HelpsOwn t
-  plain_or_own k Idle f = inl f.0.1
-  plain_or_own k (StoreValue x) f = inl f.0.1
-  plain_or_own k (EnqTail x) f = inl f.0.1
-  plain_or_own k (EnqLink x p) f = inl f.0.1
-  plain_or_own k (LinkSingle x p) f = inl f.0.1
-  plain_or_own k (EnqPass x p n) f = inl f.0.1
-  plain_or_own k (EnqLast p n) f = inl f.0.1
-  plain_or_own k (EnqHead x) f = inl f.0.1
-  plain_or_own k DeqHead f = inl f.0.1
-  plain_or_own k (DeqLink p) f = inl f.0.1
-  plain_or_own k (DeqTail p n) f = inl f.0.1
-  plain_or_own k (DeqOver p n) f = inl f.0.1
-  plain_or_own k (DeqPass p n) f = inl f.0.1
-  plain_or_own k (DeqValue p n) f = inl f.0.1
-  plain_or_own k (MoveHead p n v) f = inl f.0.1
-  plain_or_own k (BatchValue d i v) f = inl f.0.1
-  plain_or_own k (BatchChain d i) f = inl f.0.1
-  plain_or_own k (BatchField d x) f = inl f.0.1
-  plain_or_own k (BatchHead d) f = inl f.0.1
-  plain_or_own k (Install d) f = inl f.1.0.1
-  plain_or_own k (HelpOldHead h) f = back_plain (command k) h.ann h.back f.1
-  plain_or_own k (HelpFirst h) f = back_plain (command k) h.ann h.back f.1
-  plain_or_own k (HelpLast h) f = back_plain (command k) h.ann h.back f.1
-  plain_or_own k (HelpCounts h) f = back_plain (command k) h.ann h.back f.1
-  plain_or_own k (HelpTail h) f = back_plain (command k) h.ann h.back f.1
-  plain_or_own k (HelpOldTail h p) f = back_plain (command k) h.ann h.back f.1.1.1.1
-  plain_or_own k (HelpLink h p) f = back_plain (command k) h.ann h.back f.1.1.1.1.1
-  plain_or_own k (LinkChain h p) f = back_plain (command k) h.ann h.back f.1.1.1.1.1
-  plain_or_own k (HelpPass h p n) f = back_plain (command k) h.ann h.back f.1.1.1
-  plain_or_own k (RecordTail h p) f = back_plain (command k) h.ann h.back f.1.1
-  plain_or_own k (HelpOver h q) f = back_plain (command k) h.ann h.back f.1.1
-  plain_or_own k (MoveTailOver h q) f = back_plain (command k) h.ann h.back f.1.1
-  plain_or_own k (HelpWalk h m r l) f = back_plain (command k) h.ann h.back f.1.1.1.1
-  plain_or_own k (MoveHeadAnn h m r) f = back_plain (command k) h.ann h.back f.1.1.1.1
-  plain_or_own k (AnswerTail h) f = inl f.0.1
-  plain_or_own k (AnswerLink m r l) f = inl f.0.1
-  plain_or_own k (AnswerValue m r l) f = inl f.0.1
+  pub plain_or_own : (k : Caller) (t : Turn) → AtTurn z (world s L.ghost) c k t → Plain z L.ghost c ⊎ HelpsOwn t
+  plain_or_own k Idle f = inl f.call.0.1
+  plain_or_own k (turn.Enqueue x p) f = inl f.call.0.1
+  plain_or_own k (turn.Dequeue p) f = inl f.call.0.1
+  plain_or_own k (turn.Batch d p) f = inl f.call.0.1
+  plain_or_own k (turn.Help h p) f = back_plain (command k) h.ann h.back f.call.1
+  plain_or_own k (turn.Answer p) f = inl f.call.0.1
 
   -- an announcement goes on to stand, and to wait, as the caller c goes on
   pub told_plain : (memory : Memory) (g : Ghost) (k : Caller) → Plain z g c → ((a : ℕ) → IsTold z memory g s.callers a) → (a : ℕ) → IsTold z memory g (put s.callers c k) a
@@ -196,100 +194,77 @@ module _ (z : Lane) (s : State) (L : Lawful z s) (c : ℕ) where
   pub waits_there : (a : ℕ) → L.ghost.stage a ≡ waiting → L.ghost.ann ≡ Some a
   waits_there a waits = (L.announced.waits a waits).0
 
-  pub same_unmade : (k : Caller) → k.made ≡ (s.callers c).made → (d : ℕ) → Unmade z L.ghost.stage d (put s.callers c k d)
-  same_unmade k same = put_all s.callers c k (λ d y. Unmade z L.ghost.stage d y) (λ i from. L.unmade c i (subst (λ (n : ℕ). n ≤ i) same from)) (λ d _. L.unmade d)
-
   -- THE step: each part is shown in the new world, and all other callers go on knowing what they knew
   pub keeps : (memory : Memory) (added : List Group) (g : Ghost) (k : Caller) (Touch : ℕ → Type 0) → ((r : ℕ) → Touch r → z.home r ≡ c)
       → Grows z Touch (world s L.ghost) record { memory = memory; history = s.history ++ added; ghost = g }
-      → ((d : ℕ) → d ≢ c → (g.landed d ≡ L.ghost.landed d) × (mine (s.history ++ added) d ≡ mine s.history d)
-      × Drafts z (world s L.ghost) record { memory = memory; history = s.history ++ added; ghost = g } d)
+      → ((d : ℕ) → d ≢ c → Apart z (world s L.ghost) record { memory = memory; history = s.history ++ added; ghost = g } d (s.callers d))
       → IsProper z.callers (s.history ++ added)
       → last_queue (s.history ++ added) ≡ shown_queue memory.value g
-      → Listed z.rows memory.link g.path g.chained g.spot g.head g.rest
-      → ItemRows z g.path g.head g.rest g.shown
-      → Headed z.first memory.head g.path g.head g.rest g.ann g.shown g.queued
-      → Tailed z.first memory.tail g.path g.chained g.head g.rest g.tail
-      → g.head + g.rest ≤ length (operations (s.history ++ added))
-      → ((r : ℕ) → LinksIn z.rows (memory.link r))
+      → InOrder z memory (s.history ++ added) g
       → Announced z memory g
       → ((a : ℕ) → IsTold z memory g (put s.callers c k) a)
       → ((a : ℕ) → Waits z memory g (put s.callers c k) a)
-      → ((d : ℕ) → Unmade z g.stage d (put s.callers c k d))
-      → OwnGroups c (s.history ++ added) k (g.landed c)
-      → Allowed z k.mine k.ops k.taken k.made
-      → Each z record { memory = memory; history = s.history ++ added; ghost = g } c (facts z c k)
+      → OfCaller z record { memory = memory; history = s.history ++ added; ghost = g } c k
       → Lawful z (changed s c memory added k)
-  keeps memory added g k Touch homes grows others proper queue listed items headed tailed counts links announced told pending unmade groups allowed mine' = let w : World = record { memory = memory; history = s.history ++ added; ghost = g } in record {
+  keeps memory added g k Touch homes grows others proper queue list announced told pending mine' = let w : World = record { memory = memory; history = s.history ++ added; ghost = g } in record {
     ghost = g;
     history = proper;
     queue = queue;
-    rows = listed;
-    item_rows = items;
-    head = headed;
-    tail = tailed;
-    counts = counts;
-    links = links;
+    list = list;
     announced = announced;
     told = told;
     pending = pending;
-    unmade = unmade;
-    own_groups = put_all s.callers c k (λ d y. OwnGroups d (s.history ++ added) y (g.landed d)) groups
-        (λ d apart. let o = others d apart in o.1 ∙ (L.own_groups d ∙ ap (λ (b : Bool). (s.callers d).mine ++ cond b (own_group d (s.callers d) ∷ []) []) (sym o.0)));
-    allowed = put_all s.callers c k (λ d y. Allowed z y.mine y.ops y.taken y.made) allowed (λ d _. L.allowed d);
-    kept_facts = put_all s.callers c k (λ d y. Each z w d (facts z d y)) mine'
-        (λ d apart. all_stay z Touch here w grows d (λ r at touch. apart (sym at ∙ homes r touch)) (others d apart).0 (others d apart).2 (facts z d (s.callers d)) (L.kept_facts d));
+    callers = put_all s.callers c k (λ d y. OfCaller z w d y) mine' (λ d apart. caller_stays z Touch here w grows d (s.callers d) (λ r at touch. apart (sym at ∙ homes r touch)) (others d apart) (L.callers d));
   }
 
   -- the caller's turn alone changes
-  pub turns : (t : Turn) → Each z (world s L.ghost) c (turn_facts z c (turned (s.callers c) t) t) → Lawful z record { memory = s.memory; history = s.history; callers = put s.callers c (turned (s.callers c) t) }
+  pub turns : (t : Turn) → AtTurn z (world s L.ghost) c (turned (s.callers c) t) t → Lawful z record { memory = s.memory; history = s.history; callers = put s.callers c (turned (s.callers c) t) }
   turns t knows = record {
     ghost = L.ghost;
     history = L.history;
     queue = L.queue;
-    rows = L.rows;
-    item_rows = L.item_rows;
-    head = L.head;
-    tail = L.tail;
-    counts = L.counts;
-    links = L.links;
+    list = L.list;
     announced = L.announced;
     told = told_on s.memory L.ghost t (plain_or_own (turned me t) t knows) L.told;
     pending = waits_on s.memory L.ghost t L.pending;
-    unmade = same_unmade (turned me t) refl;
-    own_groups = put_all s.callers c (turned me t) (λ d y. OwnGroups d s.history y (L.ghost.landed d)) (L.own_groups c) (λ d _. L.own_groups d);
-    allowed = put_all s.callers c (turned me t) (λ d y. Allowed z y.mine y.ops y.taken y.made) (L.allowed c) (λ d _. L.allowed d);
-    kept_facts = put_all s.callers c (turned me t) (λ d y. Each z here d (facts z d y))
-        (let f = L.kept_facts c in (f.0, (f.1.0, (kept_turned s.history c me t me.values f.1.1.0, knows)))) (λ d _. L.kept_facts d);
+    callers = put_all s.callers c (turned me t) (λ d y. OfCaller z here d y) (let o = L.callers c in let f = o.knows in record {
+      unmade = o.unmade;
+      own_groups = o.own_groups;
+      allowed = o.allowed;
+      knows = record { unused = f.unused; started = f.started; last = kept_turned s.history c me t me.values f.last; at_turn = knows };
+    }) (λ d _. L.callers d);
   }
 
   -- the same as a step that finds x in a word and leaves it
-  pub quiet : (t : Turn) (l : Location) (x : Content) → read s.memory l ≡ x → Each z (world s L.ghost) c (turn_facts z c (turned (s.callers c) t) t)
+  pub quiet : (t : Turn) (l : Location) (x : Content) → read s.memory l ≡ x → AtTurn z (world s L.ghost) c (turned (s.callers c) t) t
       → Lawful z (changed s c (write s.memory l x) [] (turned (s.callers c) t))
   quiet t l x is knows = subst (λ (y : Memory × List Group). Lawful z record { memory = y.0; history = y.1; callers = put s.callers c (turned me t) })
       (λ i. (sym (ap (write s.memory l) (sym is) ∙ write_read s.memory l) i, sym (append-nil s.history) i)) (turns t knows)
 
+  -- a load, or an exchange that finds something else, after which the caller goes on
+  pub quiet_at : (t u : Turn) → changes (act t) (read s.memory (target t)) ≡ false → grows t (read s.memory (target t)) ≡ false → course t (read s.memory (target t)) ≡ GoesOn u
+      → AtTurn z (world s L.ghost) c (turned (s.callers c) u) u → Lawful z (step_at z s c t)
+  quiet_at t u lost adds goes knows = let x : Content = read s.memory (target t) in let group : Group = own_group (lander z c t) (s.callers (lander z c t)) in
+      subst (λ (y : Memory × List Group × Course). Lawful z record { memory = y.0; history = y.1; callers = put s.callers c (followed (length y.1) c me y.2) })
+      (λ i. (sym (leaves s.memory (act t) x refl lost) i, sym (ap (λ (b : Bool). s.history ++ cond b (group ∷ []) []) adds ∙ append-nil s.history) i, sym goes i)) (turns u knows)
+
   -- the same, where the values that the caller has read change too
-  pub turns_with : (t : Turn) (vs : List ℕ) → Plain z L.ghost c → Each z (world s L.ghost) c (turn_facts z c (turned_with (s.callers c) t vs) t)
+  pub turns_with : (t : Turn) (vs : List ℕ) → Plain z L.ghost c → AtTurn z (world s L.ghost) c (turned_with (s.callers c) t vs) t
       → Lawful z record { memory = s.memory; history = s.history; callers = put s.callers c (turned_with (s.callers c) t vs) }
   turns_with t vs plain knows = record {
     ghost = L.ghost;
     history = L.history;
     queue = L.queue;
-    rows = L.rows;
-    item_rows = L.item_rows;
-    head = L.head;
-    tail = L.tail;
-    counts = L.counts;
-    links = L.links;
+    list = L.list;
     announced = L.announced;
     told = told_plain s.memory L.ghost (turned_with me t vs) plain L.told;
     pending = waits_plain s.memory L.ghost (turned_with me t vs) plain waits_there L.pending;
-    unmade = same_unmade (turned_with me t vs) refl;
-    own_groups = put_all s.callers c (turned_with me t vs) (λ d y. OwnGroups d s.history y (L.ghost.landed d)) (L.own_groups c) (λ d _. L.own_groups d);
-    allowed = put_all s.callers c (turned_with me t vs) (λ d y. Allowed z y.mine y.ops y.taken y.made) (L.allowed c) (λ d _. L.allowed d);
-    kept_facts = put_all s.callers c (turned_with me t vs) (λ d y. Each z here d (facts z d y))
-        (let f = L.kept_facts c in (f.0, (f.1.0, (kept_turned s.history c me t vs f.1.1.0, knows)))) (λ d _. L.kept_facts d);
+    callers = put_all s.callers c (turned_with me t vs) (λ d y. OfCaller z here d y) (let o = L.callers c in let f = o.knows in record {
+      unmade = o.unmade;
+      own_groups = o.own_groups;
+      allowed = o.allowed;
+      knows = record { unused = f.unused; started = f.started; last = kept_turned s.history c me t vs f.last; at_turn = knows };
+    }) (λ d _. L.callers d);
   }
 
   -- the running command, which has landed, ends
@@ -300,12 +275,7 @@ module _ (z : Lane) (s : State) (L : Lawful z s) (c : ℕ) where
     ghost = G;
     history = L.history;
     queue = L.queue;
-    rows = L.rows;
-    item_rows = L.item_rows;
-    head = L.head;
-    tail = L.tail;
-    counts = L.counts;
-    links = L.links;
+    list = L.list;
     announced = L.announced;
     told = told_plain s.memory G k plain L.told;
     pending = waits_plain s.memory G k plain waits_there (λ a waits. let p = L.pending a waits in record {
@@ -324,17 +294,19 @@ module _ (z : Lane) (s : State) (L : Lawful z s) (c : ℕ) where
       last = p.last;
       values = p.values;
     });
-    unmade = same_unmade k refl;
-    own_groups = put_all s.callers c k (λ d y. OwnGroups d s.history y (put L.ghost.landed c false d))
-        (L.own_groups c ∙ (ap (λ (b : Bool). me.mine ++ cond b (own ∷ []) []) on
-        ∙ (sym (append-nil _) ∙ ap (λ (b : Bool). (me.mine ++ own ∷ []) ++ cond b (own_group c k ∷ []) []) (sym (put_here L.ghost.landed c false)))))
-        (λ d apart. L.own_groups d ∙ ap (λ (b : Bool). (s.callers d).mine ++ cond b (own_group d (s.callers d) ∷ []) []) (sym (put_else L.ghost.landed c false d apart)));
-    allowed = put_all s.callers c k (λ d y. Allowed z y.mine y.ops y.taken y.made) (allowed_end z c me (L.allowed c)) (λ d _. L.allowed d);
-    kept_facts = put_all s.callers c k (λ d y. Each z W d (facts z d y)) (
-      (λ i from below at. let o = (L.kept_facts c).0 i from below at in record { at_home = o.at_home; inside = o.inside; is_item = o.is_item; unlinked = o.unlinked; nil = o.nil }),
-      ((L.kept_facts c).1.0, (kept', ((put_here L.ghost.landed c false, plain), ((refl, λ _. ended_somewhere), tt)))),
-    )
-        (λ d apart. all_stay z (λ _. ⊥) here W grows d (λ _ _ x. x) (put_else L.ghost.landed c false d apart) (drafts_same z here W refl refl refl d) (facts z d (s.callers d)) (L.kept_facts d));
+    callers = put_all s.callers c k (λ d y. OfCaller z W d y) (record {
+      unmade = (L.callers c).unmade;
+      own_groups = (L.callers c).own_groups ∙ (ap (λ (b : Bool). me.mine ++ cond b (own ∷ []) []) on
+          ∙ (sym (append-nil _) ∙ ap (λ (b : Bool). (me.mine ++ own ∷ []) ++ cond b (own_group c k ∷ []) []) (sym (put_here L.ghost.landed c false))));
+      allowed = allowed_end z c me (L.callers c).allowed;
+      knows = record {
+        unused = λ i from below at. let o = (L.callers c).knows.unused i from below at in record { at_home = o.at_home; inside = o.inside; is_item = o.is_item; unlinked = o.unlinked; nil = o.nil };
+        started = (L.callers c).knows.started;
+        last = kept';
+        at_turn = record { call = ((put_here L.ghost.landed c false, plain), tt); here = ((refl, λ _. ended_somewhere), tt) };
+      };
+    }) (λ d apart. caller_stays z (λ _. ⊥) here W grows d (s.callers d) (λ _ _ x. x)
+        (record { landed = put_else L.ghost.landed c false d apart; made = refl; drafts = drafts_same z here W refl refl refl d; unmade = (L.callers d).unmade }) (L.callers d));
   } where
     k : Caller
     k = ended (length s.history) c me xs
@@ -361,7 +333,7 @@ module _ (z : Lane) (s : State) (L : Lawful z s) (c : ℕ) where
   -- the command of c lands, whoever makes the step, and with it grows the history
   module _ (off : L.ghost.landed c ≡ false) where
     own_mine : mine s.history c ≡ (s.callers c).mine
-    own_mine = L.own_groups c ∙ (ap (λ (b : Bool). me.mine ++ cond b (own ∷ []) []) off ∙ append-nil me.mine)
+    own_mine = (L.callers c).own_groups ∙ (ap (λ (b : Bool). me.mine ++ cond b (own ∷ []) []) off ∙ append-nil me.mine)
 
     pub joins_proper : c < z.callers → (s.callers c).ops ≢ [] → IsProper z.callers (s.history ++ own_group c (s.callers c) ∷ [])
     joins_proper known some = proper-push z.callers s.history own known some (ap length (sym own_mine)) L.history
@@ -402,4 +374,4 @@ module _ (z : Lane) (s : State) (L : Lawful z s) (c : ℕ) where
         };
       } where
         before_end : (end : ℕ) → Some (length (s.history ++ own ∷ [])) ≡ Some end → (me.started_at ≤ length s.history) × (length s.history < end)
-        before_end end e = let all : length (s.history ++ own ∷ []) ≡ end = cc e in let total = length-append s.history (own ∷ []) in ((L.kept_facts c).1.0, omega arith)
+        before_end end e = let all : length (s.history ++ own ∷ []) ≡ end = cc e in let total = length-append s.history (own ∷ []) in ((L.callers c).knows.started, omega arith)

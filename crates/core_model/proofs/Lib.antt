@@ -4,6 +4,7 @@ pub mod Counts
 pub mod Stays
 pub mod Keeps
 pub mod Announces
+pub mod Sames
 pub mod Loads
 pub mod Stores
 pub mod Tails
@@ -19,7 +20,6 @@ pub mod Runs
 pub mod Chains
 pub mod Answers
 pub mod Steps
-pub mod Courses
 pub mod Shows
 pub mod Alone
 pub mod Ends

@@ -29,26 +29,28 @@ opens z = record {
   ghost = first_ghost;
   history = record { known = All-nil (λ (g : Group). g.caller < z.callers); filled = All-nil (λ (g : Group). g.ops ≢ []); numbered = λ _. refl };
   queue = refl;
-  rows = record {
-    joined = λ i _ below. absurd (omega arith);
-    last = refl;
-    spots = λ i _ below. ap Some (let e : 0 ≡ i = omega arith in e);
-    inside = λ i _. omega arith;
+  list = record {
+    rows = record {
+      joined = λ i _ below. absurd (omega arith);
+      last = refl;
+      spots = λ i _ below. ap Some (let e : 0 ≡ i = omega arith in e);
+      inside = λ i _. omega arith;
+    };
+    item_rows = λ i above below. absurd (omega arith);
+    head = record {
+      named = λ i. Node (record { row = 0; count = (let e : z.first_count ≡ z.first_count + 0 = omega arith in e) i });
+      none = λ _. refl;
+      fits = refl;
+    };
+    tail = record {
+      named = λ i. record { row = 0; count = (let e : z.first_count ≡ z.first_count + 0 = omega arith in e) i };
+      after_head = le_refl _;
+      within = le_refl _;
+      lags = λ below _. absurd (omega arith);
+    };
+    counts = le_refl _;
+    links = λ _. tt;
   };
-  item_rows = λ i above below. absurd (omega arith);
-  head = record {
-    named = λ i. Node (record { row = 0; count = (let e : z.first_count ≡ z.first_count + 0 = omega arith in e) i });
-    none = λ _. refl;
-    fits = refl;
-  };
-  tail = record {
-    named = λ i. record { row = 0; count = (let e : z.first_count ≡ z.first_count + 0 = omega arith in e) i };
-    after_head = le_refl _;
-    within = le_refl _;
-    lags = λ below _. absurd (omega arith);
-  };
-  counts = le_refl _;
-  links = λ _. tt;
   announced = record {
     inside = λ a e. absurd (nothing e);
     installed = λ a e. absurd (nothing e);
@@ -63,10 +65,17 @@ opens z = record {
   };
   told = λ a e. absurd (nothing e);
   pending = λ a e. absurd (unused_waits refl e);
-  unmade = λ _ _ _ _. refl;
-  own_groups = λ _. refl;
-  allowed = λ _. record { within = omega arith; rows = refl; has_rows = omega arith; anns = refl; has_anns = omega arith };
-  kept_facts = λ c. ((λ i _ below known. never_taken c i below known), (le_refl _, (record { none = λ _. refl; done = λ is. absurd (never is) }, ((refl, λ a e _. nothing e), ((refl, λ some. absurd (some refl)), tt)))));
+  callers = λ c. record {
+    unmade = λ _ _ _. refl;
+    own_groups = refl;
+    allowed = record { within = omega arith; rows = refl; has_rows = omega arith; anns = refl; has_anns = omega arith };
+    knows = record {
+      unused = λ i _ below known. never_taken c i below known;
+      started = le_refl _;
+      last = record { none = λ _. refl; done = λ is. absurd (never is) };
+      at_turn = record { call = ((refl, λ a e _. nothing e), tt); here = ((refl, λ some. absurd (some refl)), tt) };
+    };
+  };
 } where
   nothing : {a : ℕ} → None ≡ Some a → ⊥
   nothing e = cc e

@@ -10,9 +10,15 @@ use Rattle.core_model.specs.Functions.{run}
 use Rattle.core_model.specs.Lane.{Lane, item}
 use Rattle.core_model.specs.Batches.{owner_of, gets}
 use Rattle.core_model.specs.State.{Caller, State}
+use Rattle.core_model.specs.declared.turn.Help.{Help}
+use Rattle.core_model.specs.declared.turn.HelpPoint.{HelpPoint}
+use Rattle.core_model.specs.declared.turn.HelpPoint.TheVariants as help
+use Rattle.core_model.specs.declared.turn.Turn.{Turn}
+use Rattle.core_model.specs.Help as helping
+use Rattle.core_model.specs.Fact.{Fact, owns, holds_item, unused_rows, linked, head_seen, tail_seen, tail_past, next_is, by_single, next_value, landed_is, is_op, answered, since, kept, rests, drafts, fills, enqueues, goes_on, written, head_written, reads, stands_at, before_end, is_old_tail, old_tail_is, tail_over, gets_so_many, walks, lands, has_read, is_reading}
+use Rattle.core_model.specs.Facts.{AllAgree, stored_before, Landed, Owns, Holds, Each, call_knows, knows, AtTurn, Knows}
 use Rattle.core_model.specs.Ghost.{Stage, unused, waiting, decided, Ghost, World, places, Unlinked, LinkAt, On, Installed}
 use Rattle.core_model.specs.Kept.{Stands, numbered, Kept}
-use Rattle.core_model.specs.Facts.{AllAgree, stored_before, Landed, Fact, owns, holds_item, unused_rows, linked, head_seen, tail_seen, tail_past, next_is, by_single, next_value, landed_is, is_op, answered, since, kept, rests, drafts, fills, enqueues, goes_on, written, head_written, reads, stands_at, before_end, is_old_tail, old_tail_is, tail_over, gets_so_many, walks, lands, has_read, is_reading, Owns, Holds, Each}
 use Rattle.core_model.proofs.Puts.{run_same}
 
 -- a state with what its words don't say
@@ -98,6 +104,39 @@ pub record Grows (z : Lane) (Touch : ℕ → Type 0) (a b : World) : Type 0 wher
   pub anns : AnnGrows z a b
   pub more : (new : List Group) × (b.history ≡ a.history ++ new)
 
+-- facts that name nothing of the caller's own: a caller that helps another knows them alone
+abbrev pub Shared : Fact → Type 0
+Shared (owns n r) = ⊥
+Shared (holds_item x) = ⊥
+Shared (unused_rows n) = ⊥
+Shared (landed_is d) = ⊥
+Shared (fills n s ops i j) = ⊥
+Shared (written d f) = ⊥
+Shared (head_written d) = ⊥
+Shared (lands x n own) = ⊥
+Shared _ = Unit {0}
+
+abbrev pub AllShared : List Fact → Type 0
+AllShared [] = Unit {0}
+AllShared (f ∷ fs) = Shared f × AllShared fs
+
+-- so is all that a help knows of the announcement
+pub helping_shared : (h : Help) (p : HelpPoint) → AllShared (helping.knows h p)
+helping_shared h help.LoadOldHead = tt
+helping_shared h help.LoadFirst = tt
+helping_shared h help.LoadLast = tt
+helping_shared h help.LoadCounts = tt
+helping_shared h help.LoadTail = tt
+helping_shared h (help.LoadOldTail p) = (tt, (tt, (tt, tt)))
+helping_shared h (help.LoadLink p) = (tt, (tt, (tt, (tt, tt))))
+helping_shared h (help.LinkChain p) = (tt, (tt, (tt, (tt, tt))))
+helping_shared h (help.PassTail p n) = (tt, (tt, tt))
+helping_shared h (help.RecordTail p) = (tt, tt)
+helping_shared h (help.LoadTailOver q) = (tt, tt)
+helping_shared h (help.MoveTailOver q) = (tt, tt)
+helping_shared h (help.LoadWalk m r l) = (tt, (tt, (tt, tt)))
+helping_shared h (help.MoveHead m r) = (tt, (tt, (tt, tt)))
+
 module _ (z : Lane) (Touch : ℕ → Type 0) (a b : World) (g : Grows z Touch a b) (c : ℕ) where
   -- where a group stood, it stands
   stands_still : (own : Group) (xs : List Answer) → Stands a.history own xs → Stands b.history own xs
@@ -168,18 +207,6 @@ module _ (z : Lane) (Touch : ℕ → Type 0) (a b : World) (g : Grows z Touch a 
         subst (On b (R.dummy + y)) (sym (g.path_same (R.dummy + y) on.0)) (on_stays (R.dummy + y) (a.ghost.path (R.dummy + y)) on);
   }
 
-  -- facts that name nothing of the caller's own: a caller that helps another knows them alone
-  abbrev pub Shared : Fact → Type 0
-  Shared (owns n r) = ⊥
-  Shared (holds_item x) = ⊥
-  Shared (unused_rows n) = ⊥
-  Shared (landed_is d) = ⊥
-  Shared (fills n s ops i j) = ⊥
-  Shared (written d f) = ⊥
-  Shared (head_written d) = ⊥
-  Shared (lands x n own) = ⊥
-  Shared _ = Unit {0}
-
   pub shared_stays : (f : Fact) → Shared f → Holds z a c f → Holds z b c f
   unfolding landed_stays stands_still
   shared_stays (linked p) _ x = (x.0, x.1, on_stays x.0 p.row x.2, x.3)
@@ -197,14 +224,14 @@ module _ (z : Lane) (Touch : ℕ → Type 0) (a b : World) (g : Grows z Touch a 
   shared_stays (drafts k d) _ x = x
   shared_stays (enqueues ops s i v) _ x = x
   shared_stays (goes_on s i) _ x = x
-  shared_stays (reads n h) _ x = let said = g.anns.said_same h.ann x.0 in (
-    g.anns.installed h.ann x.0,
-    x.1,
-    (λ l. ap (λ (s : Notice). s.old_head) said ∙ x.2 l),
-    (λ l. ap (λ (s : Notice). s.first) said ∙ x.3 l),
-    (λ l. ap (λ (s : Notice). s.last) said ∙ x.4 l),
-    λ l. ap (λ (s : Notice). s.counts) said ∙ x.5 l,
-  )
+  shared_stays (reads n h) _ x = let said = g.anns.said_same h.ann x.installed in record {
+    installed = g.anns.installed h.ann x.installed;
+    inside = x.inside;
+    old_head = λ l. ap (λ (s : Notice). s.old_head) said ∙ x.old_head l;
+    first = λ l. ap (λ (s : Notice). s.first) said ∙ x.first l;
+    last = λ l. ap (λ (s : Notice). s.last) said ∙ x.last l;
+    counts = λ l. ap (λ (s : Notice). s.counts) said ∙ x.counts l;
+  }
   shared_stays (stands_at y p) _ x = (g.anns.installed y x.0, λ e. let s = still y e x.0 in let old = x.1 s.0 in let same = s.1 in omega arith)
   shared_stays (before_end y p) _ x = (
     g.anns.installed y x.0,
@@ -234,17 +261,19 @@ module _ (z : Lane) (Touch : ℕ → Type 0) (a b : World) (g : Grows z Touch a 
     λ e. let s = still y e inst in let o = x.3 s.0 in let same = s.1 in let shown = s.2 x.0 x.1 in let sum = o.1 in let inside = o.2 in let longer = g.longer in
         (o.0, omega arith, omega arith, ap (λ (h : ℕ). b.ghost.path (h + o.0)) same ∙ (g.path_same (a.ghost.head + o.0) o.2 ∙ o.3)),
   )
-  shared_stays (has_read n own m vs l r) _ (y, i, at_i, R, x, m_is, sum, row, vals) = let on = (R.rows x (let s = sum in let e = m_is in let f : gets (a.memory.said y).counts m ≡ gets (a.memory.said y).counts (i - R.dummy) = ap (gets (a.memory.said y).counts) m_is in omega arith)) in (
-    y,
-    i,
-    g.anns.done y i at_i,
-    landed_stays y i n own at_i R,
-    x,
-    m_is,
-    sum ∙ ap (λ (s : Notice). gets s.counts m) (sym (said_stays y i at_i)),
-    g.path_same (R.dummy + x) on.0 ∙ row,
-    vals ∙ values_stay y i n own R x (let s = sum in let f : gets (a.memory.said y).counts m ≡ gets (a.memory.said y).counts (i - R.dummy) = ap (gets (a.memory.said y).counts) m_is in omega arith),
-  )
+  shared_stays (has_read n own m vs l r) _ x = record {
+    ann = x.ann;
+    place = x.place;
+    is_decided = g.anns.done x.ann x.place x.is_decided;
+    landed = landed_stays x.ann x.place n own x.is_decided x.landed;
+    read = x.read;
+    queued = x.queued;
+    left = x.left ∙ ap (λ (s : Notice). gets s.counts m) (sym (said_stays x.ann x.place x.is_decided));
+    last_row = g.path_same (x.landed.dummy + x.read) (x.landed.rows x.read within).0 ∙ x.last_row;
+    values = x.values ∙ values_stay x.ann x.place n own x.landed x.read within;
+  } where
+    within : x.read ≤ gets (a.memory.said x.ann).counts (x.place - x.landed.dummy)
+    within = let s = x.left in let f : gets (a.memory.said x.ann).counts m ≡ gets (a.memory.said x.ann).counts (x.place - x.landed.dummy) = ap (gets (a.memory.said x.ann).counts) x.queued in omega arith
   shared_stays (is_reading n own m vs l r) _ (y, i, at_i, R, x, m_is, sum, row, vals) = let f : gets (a.memory.said y).counts m ≡ gets (a.memory.said y).counts (i - R.dummy) = ap (gets (a.memory.said y).counts) m_is in let s = sum in let on = R.rows (suc x) (omega arith) in let l = on.0 in (
     y,
     i,
@@ -264,6 +293,10 @@ module _ (z : Lane) (Touch : ℕ → Type 0) (a b : World) (g : Grows z Touch a 
   shared_stays (written d f) bad x = absurd bad
   shared_stays (head_written d) bad x = absurd bad
   shared_stays (lands y n own) bad x = absurd bad
+
+  pub all_shared_stay : (fs : List Fact) → AllShared fs → Each z a c fs → Each z b c fs
+  all_shared_stay [] _ x = tt
+  all_shared_stay (f ∷ fs) s x = (shared_stays f s.0 x.0, all_shared_stay fs s.1 x.1)
 
   module _ (apart : (r : ℕ) → z.home r ≡ c → ¬ (Touch r)) (landed : b.ghost.landed c ≡ a.ghost.landed c) (own_drafts : Drafts z a b c) where
     -- an own announcement in HEAD stood there before
@@ -328,3 +361,10 @@ module _ (z : Lane) (Touch : ℕ → Type 0) (a b : World) (g : Grows z Touch a 
     pub all_stay : (fs : List Fact) → Each z a c fs → Each z b c fs
     all_stay [] x = tt
     all_stay (f ∷ fs) x = (stays f x.0, all_stay fs x.1)
+
+    pub at_turn_stays : (k : Caller) (t : Turn) → AtTurn z a c k t → AtTurn z b c k t
+    at_turn_stays k t f = record { call = all_stay (call_knows c k t) f.call; here = all_stay (knows c k t) f.here }
+
+    -- what a caller knows goes on to be so
+    pub knows_stay : (k : Caller) → Knows z a c k → Knows z b c k
+    knows_stay k f = record { unused = stays (unused_rows k.taken) f.unused; started = stays (since k.started_at) f.started; last = stays (kept k) f.last; at_turn = at_turn_stays k k.turn f.at_turn }

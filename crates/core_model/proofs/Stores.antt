@@ -7,18 +7,20 @@ use Rattle.bq_model.specs.History.{operations, last_queue}
 use Rattle.bq_model.specs.Own.{mine}
 use Rattle.bq_model.specs.Proper.{IsProper}
 use Rattle.core_model.specs.declared.turn.Item.{Item}
-use Rattle.core_model.specs.declared.turn.Turn.TheVariants.{StoreValue, EnqTail}
+use Rattle.core_model.specs.declared.turn.Turn.TheVariants as turn
+use Rattle.core_model.specs.declared.turn.EnqueuePoint.TheVariants as enq
 use Rattle.core_model.specs.Functions.{put, run}
 use Rattle.core_model.specs.Lane.{Lane, item}
 use Rattle.core_model.specs.State.{Memory, Caller, State}
+use Rattle.core_model.specs.Fact.{owns, is_op, landed_is}
 use Rattle.core_model.specs.Step.{turned, step_at}
+use Rattle.core_model.specs.Facts.{Owns, Holds}
 use Rattle.core_model.specs.Ghost.{Ghost, World, places}
 use Rattle.core_model.specs.Kept.{Kept}
-use Rattle.core_model.specs.Facts.{owns, is_op, landed_is, Owns, Holds}
 use Rattle.core_model.specs.Lawful.{Lawful}
 use Rattle.core_model.proofs.Puts.{put_here, put_else, run_same}
 use Rattle.core_model.proofs.Stays.{world, anns_same, Grows, owns_stays}
-use Rattle.core_model.proofs.Keeps.{kept_turned, known, keeps, changed, drafts_same, told_on, waits_on, waits_there, same_unmade}
+use Rattle.core_model.proofs.Keeps.{kept_turned, known, keeps, changed, drafts_same, told_on, waits_on, waits_there}
 use Rattle.core_model.proofs.Announces.{told_same, pending_same}
 use Rattle.core_model.specs.Batches.{owner_of}
 
@@ -34,14 +36,14 @@ module _ (z : Lane) (s : State) (L : Lawful z s) (c : ℕ) (x : Item) (off : Hol
   memory' = record s.memory { value = value' }
 
   abbrev k' : Caller
-  k' = turned (s.callers c) (EnqTail x)
+  k' = turned (s.callers c) (turn.Enqueue x enq.LoadTail)
 
   abbrev W : World
   W = record { memory = memory'; history = s.history ++ []; ghost = G }
 
   -- the row is not of the list
   on_path : (i : ℕ) → G.head ≤ i → i < places G → value' (G.path i) ≡ s.memory.value (G.path i)
-  on_path i from below = put_else s.memory.value x.row x.value (G.path i) (λ e. nothing (sym own.0.unlinked ∙ (ap G.spot (sym e) ∙ L.rows.spots i from below))) where
+  on_path i from below = put_else s.memory.value x.row x.value (G.path i) (λ e. nothing (sym own.0.unlinked ∙ (ap G.spot (sym e) ∙ L.list.rows.spots i from below))) where
     nothing : {i : ℕ} → None ≡ Some i → ⊥
     nothing e = cc e
 
@@ -73,30 +75,27 @@ module _ (z : Lane) (s : State) (L : Lawful z s) (c : ℕ) (x : Item) (off : Hol
 
   pub value_stored : Lawful z (changed s c memory' [] k')
   value_stored = keeps z s L c memory' [] G k' (λ r. r ≡ x.row) (λ r e. ap z.home e ∙ own.0.at_home) grows
-      (λ d _. (refl, ap (λ (h : List Group). mine h d) (append-nil s.history), drafts_same z (world s G) W refl refl refl d))
+      (λ d _. record { landed = refl; made = ap (λ (h : List Group). mine h d) (append-nil s.history); drafts = drafts_same z (world s G) W refl refl refl d; unmade = (L.callers d).unmade })
       (still (IsProper z.callers) L.history)
       (still (λ h. last_queue h ≡ run (λ i. value' (G.path i)) (suc (G.head + G.shown)) G.queued)
-      (L.queue ∙ run_same (λ i. s.memory.value (G.path i)) (λ i. value' (G.path i)) (suc (G.head + G.shown)) G.queued (λ j from below. let fits = L.head.fits in sym (on_path j (omega arith) (omega arith)))))
-      L.rows L.item_rows L.head L.tail
-      (still (λ h. G.head + G.rest ≤ length (operations h)) L.counts)
-      L.links L.announced
-      (told_on z s L c memory' G (EnqTail x) (inl off.1) (λ a at_head. told_same s.memory.value value' G.path G.path (G.stage a) (s.memory.said a) (owner_of z a) (s.callers (owner_of z a))
+      (L.queue ∙ run_same (λ i. s.memory.value (G.path i)) (λ i. value' (G.path i)) (suc (G.head + G.shown)) G.queued (λ j from below. let fits = L.list.head.fits in sym (on_path j (omega arith) (omega arith)))))
+      (record { rows = L.list.rows; item_rows = L.list.item_rows; head = L.list.head; tail = L.list.tail; counts = still (λ h. G.head + G.rest ≤ length (operations h)) L.list.counts; links = L.list.links })
+      L.announced
+      (told_on z s L c memory' G (turn.Enqueue x enq.LoadTail) (inl off.1) (λ a at_head. told_same s.memory.value value' G.path G.path (G.stage a) (s.memory.said a) (owner_of z a) (s.callers (owner_of z a))
       (λ i j d from below. let inside = (L.announced.bound a i d).within in let head = (L.announced.standing a i at_head d).from in on_path j (omega arith) (omega arith)) (L.told a at_head)))
-      (waits_on z s L c memory' G (EnqTail x) (λ a waits. let p = L.pending a waits in pending_same z s.memory.link s.memory.link s.memory.value value' G.spot G.spot G.chain (G.landed (owner_of z a)) (G.landed (owner_of z a)) (s.memory.said a) (owner_of z a) (s.callers (owner_of z a))
+      (waits_on z s L c memory' G (turn.Enqueue x enq.LoadTail) (λ a waits. let p = L.pending a waits in pending_same z s.memory.link s.memory.link s.memory.value value' G.spot G.spot G.chain (G.landed (owner_of z a)) (G.landed (owner_of z a)) (s.memory.said a) (owner_of z a) (s.callers (owner_of z a))
       (λ _ _. refl) (λ i below. put_else s.memory.value x.row x.value (G.chain i) (λ e. off.1 a (waits_there z s L c a waits) (sym (p.homes i below) ∙ (ap z.home e ∙ own.0.at_home)))) p.unlinked refl p))
-      (same_unmade z s L c k' refl)
-      (ap (λ (h : List Group). mine h c) (append-nil s.history) ∙ L.own_groups c)
-      (L.allowed c)
-      (let f = L.kept_facts c in (
-        (λ i from below at. owns_stays z (λ r. r ≡ x.row) (world s G) W grows c (item z c i) (own.1 i from) (f.0 i from below at)),
-        (
-          still (λ h. (s.callers c).started_at ≤ length h) f.1.0,
-          (
-            still (λ h. Kept h c k') (kept_turned s.history c (s.callers c) (EnqTail x) (s.callers c).values f.1.1.0),
-            (off, (op, ((row, own.1), ((row, put_here s.memory.value x.row x.value), tt)))),
-          ),
-        ),
-      ))
+      (record {
+        unmade = (L.callers c).unmade;
+        own_groups = ap (λ (h : List Group). mine h c) (append-nil s.history) ∙ (L.callers c).own_groups;
+        allowed = (L.callers c).allowed;
+        knows = let f = (L.callers c).knows in record {
+          unused = λ i from below at. owns_stays z (λ r. r ≡ x.row) (world s G) W grows c (item z c i) (own.1 i from) (f.unused i from below at);
+          started = still (λ h. (s.callers c).started_at ≤ length h) f.started;
+          last = still (λ h. Kept h c k') (kept_turned s.history c (s.callers c) (turn.Enqueue x enq.LoadTail) (s.callers c).values f.last);
+          at_turn = record { call = (off, (op, ((row, own.1), ((row, put_here s.memory.value x.row x.value), tt)))); here = tt };
+        };
+      })
 
-pub keeps_store_value : (z : Lane) (s : State) (L : Lawful z s) (c : ℕ) (x : Item) → (s.callers c).turn ≡ StoreValue x → Lawful z (step_at z s c (StoreValue x))
-keeps_store_value z s L c x is = let f = known z s L c (StoreValue x) is in value_stored z s L c x f.0 f.1.0 f.1.1.0
+pub keeps_store_value : (z : Lane) (s : State) (L : Lawful z s) (c : ℕ) (x : Item) → (s.callers c).turn ≡ turn.Enqueue x enq.StoreValue → Lawful z (step_at z s c (turn.Enqueue x enq.StoreValue))
+keeps_store_value z s L c x is = let f = known z s L c (turn.Enqueue x enq.StoreValue) is in value_stored z s L c x f.call.0 f.call.1.0 f.call.1.1.0

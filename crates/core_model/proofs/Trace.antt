@@ -7,13 +7,18 @@ use Rattle.bq_model.specs.declared.group.Group.{Group}
 use Rattle.excess_count.specs.Excess.{excess_of}
 use Rattle.word_rows.specs.declared.head_word.HeadWord.TheVariants.{Node}
 use Rattle.core_model.specs.declared.turn.Turn.{Turn}
-use Rattle.core_model.specs.declared.turn.Turn.TheVariants.{Idle, EnqLast, DeqPass, LinkChain, HelpOldHead}
+use Rattle.core_model.specs.declared.turn.Turn.TheVariants.{Idle}
+use Rattle.core_model.specs.declared.turn.DequeuePoint.TheVariants as deq
+use Rattle.core_model.specs.declared.turn.Turn.TheVariants as turn
+use Rattle.core_model.specs.declared.turn.EnqueuePoint.TheVariants as enq
+use Rattle.core_model.specs.declared.turn.HelpPoint.TheVariants as help
 use Rattle.core_model.specs.declared.turn.CallEnd.TheVariants as outcome
 use Rattle.core_model.specs.Lane.{Lane}
 use Rattle.core_model.specs.Notices.{place}
 use Rattle.core_model.specs.State.{State}
+use Rattle.core_model.specs.Help.{help_of}
+use Rattle.core_model.specs.Step.{next}
 use Rattle.core_model.specs.declared.turn.Back.TheVariants as back
-use Rattle.core_model.specs.Step.{next, help_of}
 use Rattle.core_model.specs.Start.{start, opening}
 
 -- two callers with two item rows each
@@ -33,7 +38,7 @@ abbrev lagging : State
 lagging = steps two 0 4 (start two (opening two) 0 (Enq 7 ∷ []))
 
 -- the enqueue stands in the history before its command ends
-lags : ((lagging.callers 0).turn ≡ EnqLast (place 0 5) 1) × (lagging.history ≡ group 0 0 (Enq 7) ∷ []) × ((lagging.callers 0).mine ≡ [])
+lags : ((lagging.callers 0).turn ≡ turn.Enqueue (record { row = 1; value = 7 }) (enq.MoveTail (place 0 5) 1)) × (lagging.history ≡ group 0 0 (Enq 7) ∷ []) × ((lagging.callers 0).mine ≡ [])
 unfolding steps next
 lags = (refl, refl, refl)
 
@@ -41,7 +46,7 @@ lags = (refl, refl, refl)
 abbrev dequeued : State
 dequeued = steps two 1 9 (start two lagging 1 (Deq ∷ []))
 
-helped : ((steps two 1 3 (start two lagging 1 (Deq ∷ []))).callers 1).turn ≡ DeqPass (place 0 5) 1
+helped : ((steps two 1 3 (start two lagging 1 (Deq ∷ []))).callers 1).turn ≡ turn.Dequeue (deq.PassTail (place 0 5) 1)
 unfolding steps next
 helped = refl
 
@@ -61,7 +66,7 @@ full = (refl, refl, refl)
 
 -- A caller makes steps, n at most, until its next one links a chain.
 links_chain : Turn → Bool
-links_chain (LinkChain h p) = true
+links_chain (turn.Help h (help.LinkChain p)) = true
 links_chain _ = false
 
 until_link : Lane → ℕ → ℕ → State → State
@@ -83,11 +88,11 @@ alone = (refl, refl, refl, refl, refl, refl)
 abbrev helping : State
 helping = steps two 0 40 (start two (steps two 1 15 (start two (opening two) 1 four)) 0 (Deq ∷ []))
 
-installed : ((steps two 1 15 (start two (opening two) 1 four)).callers 1).turn ≡ HelpOldHead (help_of 2 back.Own)
+installed : ((steps two 1 15 (start two (opening two) 1 four)).callers 1).turn ≡ turn.Help (help_of 2 back.Own) help.LoadOldHead
 unfolding steps next excess_of
 installed = refl
 
-finished : (helping.history ≡ batch_group 1 0 four ∷ batch_group 0 0 (Deq ∷ []) ∷ []) × ((helping.callers 0).answers ≡ Got 6 ∷ []) × ((helping.callers 1).mine ≡ []) × ((helping.callers 1).turn ≡ HelpOldHead (help_of 2 back.Own))
+finished : (helping.history ≡ batch_group 1 0 four ∷ batch_group 0 0 (Deq ∷ []) ∷ []) × ((helping.callers 0).answers ≡ Got 6 ∷ []) × ((helping.callers 1).mine ≡ []) × ((helping.callers 1).turn ≡ turn.Help (help_of 2 back.Own) help.LoadOldHead)
 unfolding steps next excess_of
 finished = (refl, refl, refl, refl)
 

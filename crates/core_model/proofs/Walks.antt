@@ -16,17 +16,21 @@ use Rattle.word_rows.specs.declared.content.Content.TheVariants.{OfHead, OfTail,
 use Rattle.core_model.specs.declared.turn.Back.{Back}
 use Rattle.core_model.specs.declared.turn.Back.TheVariants as back
 use Rattle.core_model.specs.declared.turn.Help.{Help}
-use Rattle.core_model.specs.declared.turn.Turn.TheVariants.{HelpOver, MoveTailOver, HelpWalk, MoveHeadAnn}
+use Rattle.core_model.specs.declared.turn.Turn.TheVariants as turn
+use Rattle.core_model.specs.declared.turn.HelpPoint.TheVariants as help
 use Rattle.core_model.specs.Functions.{put, run}
 use Rattle.core_model.specs.Lane.{Lane}
 use Rattle.core_model.specs.Batches.{gets}
 use Rattle.core_model.specs.State.{Memory, Caller, command, State, write}
-use Rattle.core_model.specs.Step.{turned, same_place, is_ann, far_behind, before_it, walk_on, walk, back_turn, step_with, step_at}
+use Rattle.core_model.specs.Act.{same_place, is_ann, far_behind}
+use Rattle.core_model.specs.Fact.{reads, old_tail_is, tail_over, gets_so_many, walks}
+use Rattle.core_model.specs.Help.{before_it, walk_on, walk, back_turn, back_facts}
+use Rattle.core_model.specs.Step.{turned, step_with, step_at}
+use Rattle.core_model.specs.Facts.{Holds, Each, AtTurn}
 use Rattle.core_model.specs.Ghost.{waiting, decided, Ghost, World, joint, at}
-use Rattle.core_model.specs.Facts.{reads, old_tail_is, tail_over, gets_so_many, walks, Holds, Each, back_facts, turn_facts, facts}
 use Rattle.core_model.specs.Lawful.{head_word, LinksIn, Bound, Announced, Lawful}
-use Rattle.core_model.proofs.Stays.{world, waits_decides, one_place, one_some, some_none, anns_same, anns_moved, Grows, all_stay}
-use Rattle.core_model.proofs.Keeps.{known, quiet, turns, changed, same_places, drafts_same}
+use Rattle.core_model.proofs.Stays.{world, waits_decides, one_place, one_some, some_none, anns_same, anns_moved, Grows}
+use Rattle.core_model.proofs.Keeps.{caller_stays, known, quiet, turns, changed, same_places, drafts_same}
 use Rattle.core_model.proofs.Announces.{stages_moved}
 use Rattle.core_model.proofs.Loads.{ann_stands, not_ann}
 
@@ -39,7 +43,7 @@ same_place_refl p q e = and_from (eqb p.row q.row) (eqb p.count q.count) (eq-eqb
 -- TAIL isn't the old tail of the announcement that stands, so it is past the rows
 past_old : (z : Lane) (s : State) (L : Lawful z s) (a i : ℕ) (q : Place) → L.ghost.stage a ≡ decided i → s.memory.old_tail a ≡ Some q → (s.memory.tail ≡ q → ⊥) → L.ghost.ann ≡ Some a
     → i + (s.memory.said a).counts.enqs ≤ L.ghost.tail
-past_old z s L a i q d old apart at_head = ⊎_elim (λ (here : L.ghost.tail ≡ i). absurd (apart (L.tail.named ∙ (ap (at z.first L.ghost.path) here ∙ sym (L.announced.recorded a i q d old)))))
+past_old z s L a i q d old apart at_head = ⊎_elim (λ (here : L.ghost.tail ≡ i). absurd (apart (L.list.tail.named ∙ (ap (at z.first L.ghost.path) here ∙ sym (L.announced.recorded a i q d old)))))
     (λ (past : i + (s.memory.said a).counts.enqs ≤ L.ghost.tail). past) (L.announced.standing a i at_head d).tails
 
 module _ (z : Lane) (s : State) (L : Lawful z s) (c : ℕ) where
@@ -48,21 +52,21 @@ module _ (z : Lane) (s : State) (L : Lawful z s) (c : ℕ) where
 
   -- what the helper knows at the row r, with l links to go
   on_walk : (h : Help) (m r l : ℕ) → Holds z (world s L.ghost) c (reads 4 h) → Holds z (world s L.ghost) c (walks h.ann r l) → Holds z (world s L.ghost) c (gets_so_many h m) → Holds z (world s L.ghost) c (tail_over h.ann)
-      → Each z (world s L.ghost) c (back_facts z c (command (s.callers c)) h.ann h.back) → Each z (world s L.ghost) c (turn_facts z c (turned (s.callers c) (walk_on h m r l)) (walk_on h m r l))
-  on_walk h m r zero reading w g t rest = (reading, (w, (g, (t, rest))))
-  on_walk h m r (suc l) reading w g t rest = (reading, (w, (g, (t, rest))))
+      → Each z (world s L.ghost) c (back_facts c (command (s.callers c)) h.ann h.back) → AtTurn z (world s L.ghost) c (turned (s.callers c) (turn.Help h (walk_on m r l))) (turn.Help h (walk_on m r l))
+  on_walk h m r zero reading w g t rest = record { call = (reading, rest); here = (w, (g, (t, tt))) }
+  on_walk h m r (suc l) reading w g t rest = record { call = (reading, rest); here = (w, (g, (t, tt))) }
 
   -- and after the help, where the announcement has left HEAD
-  goes_back : (h : Help) (b : Back) → (L.ghost.ann ≡ Some h.ann → ⊥) → Holds z (world s L.ghost) c (reads 4 h) → Holds z (world s L.ghost) c (tail_over h.ann) → Each z (world s L.ghost) c (back_facts z c (command (s.callers c)) h.ann b)
-      → Each z (world s L.ghost) c (turn_facts z c (turned (s.callers c) (back_turn h b)) (back_turn h b))
-  goes_back h back.Own gone reading t rest = (((rest.0.2 t.0 t.1).0, λ x at_x own. gone (at_x ∙ ap Some (rest.0.3 x at_x own))), (reading, (t, rest)))
-  goes_back h (back.Enqueue x) gone reading t rest = rest
-  goes_back h back.Dequeue gone reading t rest = rest
-  goes_back h (back.Batch d) gone reading t rest = rest
+  goes_back : (h : Help) (b : Back) → (L.ghost.ann ≡ Some h.ann → ⊥) → Holds z (world s L.ghost) c (reads 4 h) → Holds z (world s L.ghost) c (tail_over h.ann) → Each z (world s L.ghost) c (back_facts c (command (s.callers c)) h.ann b)
+      → AtTurn z (world s L.ghost) c (turned (s.callers c) (back_turn h b)) (back_turn h b)
+  goes_back h back.Own gone reading t rest = record { call = (((rest.0.2 t.0 t.1).0, λ x at_x own. gone (at_x ∙ ap Some (rest.0.3 x at_x own))), tt); here = (reading, (t, rest)) }
+  goes_back h (back.Enqueue x) gone reading t rest = record { call = rest; here = tt }
+  goes_back h back.Dequeue gone reading t rest = record { call = rest; here = tt }
+  goes_back h (back.Batch d) gone reading t rest = record { call = (rest.0, (rest.1.0, tt)); here = rest.1.1 }
 
   -- the walk begins
   module _ (h : Help) (q : Place) (reading : Holds z (world s L.ghost) c (reads 4 h)) (old : Holds z (world s L.ghost) c (old_tail_is h.ann q))
-      (over : L.ghost.ann ≡ Some h.ann → old.0 + (s.memory.said h.ann).counts.enqs ≤ L.ghost.tail) (rest : Each z (world s L.ghost) c (back_facts z c (command (s.callers c)) h.ann h.back)) where
+      (over : L.ghost.ann ≡ Some h.ann → old.0 + (s.memory.said h.ann).counts.enqs ≤ L.ghost.tail) (rest : Each z (world s L.ghost) c (back_facts c (command (s.callers c)) h.ann h.back)) where
     abbrev G : Ghost
     G = L.ghost
 
@@ -82,13 +86,13 @@ module _ (z : Lane) (s : State) (L : Lawful z s) (c : ℕ) where
     q_is = L.announced.recorded h.ann old.0 q old.1 old.2
 
     old_head_is : h.old_head ≡ at z.first G.path B.old_dummy.0
-    old_head_is = sym (reading.2 (omega arith)) ∙ B.old_dummy.1
+    old_head_is = sym (reading.old_head (omega arith)) ∙ B.old_dummy.1
 
     n_is : n ≡ old.0 - B.old_dummy.0
     n_is = let qc = ap (λ (p : Place). p.count) q_is in let hc = ap (λ (p : Place). p.count) old_head_is in omega arith
 
     counts_is : (s.memory.said h.ann).counts ≡ h.counts
-    counts_is = reading.5 (omega arith)
+    counts_is = reading.counts (omega arith)
 
     -- while it stands, its old dummy is the dummy
     dummy_is : G.ann ≡ Some h.ann → B.old_dummy.0 ≡ G.head
@@ -106,25 +110,25 @@ module _ (z : Lane) (s : State) (L : Lawful z s) (c : ℕ) where
     tails : Holds z (world s L.ghost) c (tail_over h.ann)
     tails = (old.0, old.1, (q, old.2), over)
 
-    begins : (b : Bool) → ltb m n ≡ b → Each z (world s L.ghost) c (turn_facts z c (turned (s.callers c) (cond b (walk_on h m h.old_head.row m) (walk_on h m q.row (m - n)))) (cond b (walk_on h m h.old_head.row m) (walk_on h m q.row (m - n))))
+    begins : (b : Bool) → ltb m n ≡ b → AtTurn z (world s L.ghost) c (turned (s.callers c) (turn.Help h (cond b (walk_on m h.old_head.row m) (walk_on m q.row (m - n))))) (turn.Help h (cond b (walk_on m h.old_head.row m) (walk_on m q.row (m - n))))
     begins true _ = let within = B.within in let before = B.old_dummy.2 in let row = ap (λ (p : Place). p.row) old_head_is in on_walk h m h.old_head.row m reading (
       old.0,
       old.1,
-      subst (λ (r : ℕ). r < z.rows) (sym row) (L.rows.inside B.old_dummy.0 (omega arith)),
+      subst (λ (r : ℕ). r < z.rows) (sym row) (L.list.rows.inside B.old_dummy.0 (omega arith)),
       λ at_head. let g = so_many.2 at_head in
           (0, omega arith, omega arith, ap G.path (let d = dummy_is at_head in let e : G.head + 0 ≡ B.old_dummy.0 = omega arith in e) ∙ sym row),
     ) so_many tails rest
     begins false less = let within = B.within in let row = ap (λ (p : Place). p.row) q_is in on_walk h m q.row (m - n) reading (
       old.0,
       old.1,
-      subst (λ (r : ℕ). r < z.rows) (sym row) (L.rows.inside old.0 (omega arith)),
+      subst (λ (r : ℕ). r < z.rows) (sym row) (L.list.rows.inside old.0 (omega arith)),
       λ at_head. let g = so_many.2 at_head in let from = (L.announced.standing h.ann old.0 at_head old.1).from in let e = n_is in let d = dummy_is at_head in
           (n, (let ge = more in omega arith), omega arith, ap G.path (let f : G.head + n ≡ old.0 = omega arith in f) ∙ sym row),
     ) so_many tails rest where
       more : n ≤ m
       more = dite (dec_le n m) (λ l. l) (λ no. absurd (differ (sym (lt-ltb m n (omega arith)) ∙ less)))
 
-    walk_begins : Each z (world s L.ghost) c (turn_facts z c (turned (s.callers c) (walk h q)) (walk h q))
+    walk_begins : AtTurn z (world s L.ghost) c (turned (s.callers c) (turn.Help h (walk h q))) (turn.Help h (walk h q))
     walk_begins = begins (ltb m n) refl
 
 module _ (z : Lane) (s : State) (L : Lawful z s) (c : ℕ) where
@@ -135,14 +139,14 @@ module _ (z : Lane) (s : State) (L : Lawful z s) (c : ℕ) where
   as_step : (memory : Memory) (k : Caller) → Lawful z record { memory = memory; history = s.history; callers = put s.callers c k } → Lawful z (changed s c memory [] k)
   as_step memory k l = subst (λ (h : List Group). Lawful z record { memory = memory; history = h; callers = put s.callers c k }) (sym (append-nil s.history)) l
 
-  over_loaded : (h : Help) (q : Place) (b : Bool) → same_place s.memory.tail q ≡ b → Each z (world s L.ghost) c (turn_facts z c (s.callers c) (HelpOver h q))
-      → Lawful z (changed s c (write s.memory Tail (OfTail s.memory.tail)) [] (cond b (turned (s.callers c) (MoveTailOver h q)) (turned (s.callers c) (walk h q))))
-  over_loaded h q true is f = quiet z s L c (MoveTailOver h q) Tail (OfTail s.memory.tail) refl f
-  over_loaded h q false is f = quiet z s L c (walk h q) Tail (OfTail s.memory.tail) refl
-      (walk_begins z s L c h q f.0 f.1.0 (past_old z s L h.ann f.1.0.0 q f.1.0.1 f.1.0.2 (λ e. differ (sym (same_place_refl s.memory.tail q e) ∙ is))) f.1.1)
+  over_loaded : (h : Help) (q : Place) (b : Bool) → same_place s.memory.tail q ≡ b → AtTurn z (world s L.ghost) c (s.callers c) (turn.Help h (help.LoadTailOver q))
+      → Lawful z (changed s c (write s.memory Tail (OfTail s.memory.tail)) [] (turned (s.callers c) (turn.Help h (cond b (help.MoveTailOver q) (walk h q)))))
+  over_loaded h q true is f = quiet z s L c (turn.Help h (help.MoveTailOver q)) Tail (OfTail s.memory.tail) refl (record { call = f.call; here = f.here })
+  over_loaded h q false is f = quiet z s L c (turn.Help h (walk h q)) Tail (OfTail s.memory.tail) refl
+      (walk_begins z s L c h q f.call.0 f.here.0 (past_old z s L h.ann f.here.0.0 q f.here.0.1 f.here.0.2 (λ e. differ (sym (same_place_refl s.memory.tail q e) ∙ is))) f.call.1)
 
-  pub keeps_help_over : (h : Help) (q : Place) → (s.callers c).turn ≡ HelpOver h q → Lawful z (step_at z s c (HelpOver h q))
-  keeps_help_over h q is = over_loaded h q (same_place s.memory.tail q) refl (known z s L c (HelpOver h q) is)
+  pub keeps_help_over : (h : Help) (q : Place) → (s.callers c).turn ≡ turn.Help h (help.LoadTailOver q) → Lawful z (step_at z s c (turn.Help h (help.LoadTailOver q)))
+  keeps_help_over h q is = over_loaded h q (same_place s.memory.tail q) refl (known z s L c (turn.Help h (help.LoadTailOver q)) is)
 
   -- TAIL moves over the chain
   module _ (h : Help) (q : Place) (reading : Holds z (world s L.ghost) c (reads 4 h)) (old : Holds z (world s L.ghost) c (old_tail_is h.ann q)) (is : s.memory.tail ≡ q) where
@@ -156,7 +160,7 @@ module _ (z : Lane) (s : State) (L : Lawful z s) (c : ℕ) where
     BO = L.announced.bound h.ann old.0 old.1
 
     tail_is : L.ghost.tail ≡ old.0
-    tail_is = let e = ap (λ (p : Place). p.count) (sym L.tail.named ∙ (is ∙ L.announced.recorded h.ann old.0 q old.1 old.2)) in omega arith
+    tail_is = let e = ap (λ (p : Place). p.count) (sym L.list.tail.named ∙ (is ∙ L.announced.recorded h.ann old.0 q old.1 old.2)) in omega arith
 
     lag : (x : ℕ) × (L.ghost.stage x ≡ decided L.ghost.tail) × (L.ghost.ann ≡ Some x) × (L.ghost.head + L.ghost.rest ≤ L.ghost.tail + (s.memory.said x).counts.enqs)
     lag = let t = tail_is in let some = BO.some in let within = BO.within in L.announced.lags (omega arith) (ap L.ghost.chained t ∙ BO.by_chain)
@@ -200,22 +204,24 @@ module _ (z : Lane) (s : State) (L : Lawful z s) (c : ℕ) where
     }
 
     went_over : Lawful z record { memory = record s.memory { tail = far_behind q h.last h.counts.enqs }; history = s.history; callers = s.callers }
-    went_over = let e = end in let t = tail_is in let from = L.tail.after_head in record {
+    went_over = let e = end in let t = tail_is in let from = L.list.tail.after_head in record {
       ghost = GT;
       history = L.history;
       queue = L.queue;
-      rows = L.rows;
-      item_rows = L.item_rows;
-      head = L.head;
-      tail = record {
-        named = let count = ap (λ (p : Place). p.count) (sym is ∙ L.tail.named) in let same = ap (λ (y : BatchCounts). y.enqs) (reading.5 (omega arith)) in
-            λ i. record { row = (sym (reading.4 (omega arith)) ∙ (sym BO.ends ∙ ap (λ (y : ℕ). L.ghost.path (y + enqs)) (sym t))) i; count = (let f : q.count + h.counts.enqs ≡ z.first + (L.ghost.tail + enqs) = omega arith in f) i };
-        after_head = omega arith;
-        within = omega arith;
-        lags = λ below _. absurd (omega arith);
+      list = record {
+        rows = L.list.rows;
+        item_rows = L.list.item_rows;
+        head = L.list.head;
+        tail = record {
+          named = let count = ap (λ (p : Place). p.count) (sym is ∙ L.list.tail.named) in let same = ap (λ (y : BatchCounts). y.enqs) (reading.counts (omega arith)) in
+              λ i. record { row = (sym (reading.last (omega arith)) ∙ (sym BO.ends ∙ ap (λ (y : ℕ). L.ghost.path (y + enqs)) (sym t))) i; count = (let f : q.count + h.counts.enqs ≡ z.first + (L.ghost.tail + enqs) = omega arith in f) i };
+          after_head = omega arith;
+          within = omega arith;
+          lags = λ below _. absurd (omega arith);
+        };
+        counts = L.list.counts;
+        links = L.list.links;
       };
-      counts = L.counts;
-      links = L.links;
       announced = stages_moved z.first (z.callers * z.callers) G0.stage G0.ann s.memory.said s.memory.old_tail G0.path G0.path G0.chained G0.chained G0.cause G0.head G0.head (G0.head + G0.rest) (G0.head + G0.rest) G0.shown G0.shown G0.tail (G0.tail + enqs)
           (le_refl _) (omega arith) (λ _ _. refl) (λ _ _. refl) (omega arith) (λ _ _. (refl, refl))
           (λ x i at_head d. inr (subst (λ (y : ℕ). i + (s.memory.said y).counts.enqs ≤ G0.tail + enqs) (sym (alone x at_head)) (let same = one_place (ap G0.stage (sym (alone x at_head)) ∙ d) old.1 in omega arith)))
@@ -223,23 +229,20 @@ module _ (z : Lane) (s : State) (L : Lawful z s) (c : ℕ) where
           (λ below _. absurd (omega arith)) L.announced;
       told = L.told;
       pending = L.pending;
-      unmade = L.unmade;
-      own_groups = L.own_groups;
-      allowed = L.allowed;
-      kept_facts = λ d. all_stay z (λ _. ⊥) (world s L.ghost) W grows d (λ _ _ x. x) refl (drafts_same z (world s L.ghost) W refl refl refl d) (facts z d (s.callers d)) (L.kept_facts d);
+      callers = λ d. caller_stays z (λ _. ⊥) (world s L.ghost) W grows d (s.callers d) (λ _ _ x. x) (record { landed = refl; made = refl; drafts = drafts_same z (world s L.ghost) W refl refl refl d; unmade = (L.callers d).unmade }) (L.callers d);
     }
 
-  over_moved : (h : Help) (q : Place) (b : Bool) → same_place s.memory.tail q ≡ b → (s.callers c).turn ≡ MoveTailOver h q
-      → Lawful z (changed s c (write s.memory Tail (cond b (OfTail (far_behind q h.last h.counts.enqs)) (OfTail s.memory.tail))) [] (turned (s.callers c) (walk h q)))
-  over_moved h q true same is = let f = known z s L c (MoveTailOver h q) is in let there = same_places s.memory.tail q same in
+  over_moved : (h : Help) (q : Place) (b : Bool) → same_place s.memory.tail q ≡ b → (s.callers c).turn ≡ turn.Help h (help.MoveTailOver q)
+      → Lawful z (changed s c (write s.memory Tail (cond b (OfTail (far_behind q h.last h.counts.enqs)) (OfTail s.memory.tail))) [] (turned (s.callers c) (turn.Help h (walk h q))))
+  over_moved h q true same is = let f = known z s L c (turn.Help h (help.MoveTailOver q)) is in let there = same_places s.memory.tail q same in
       let s' : State = record { memory = record s.memory { tail = far_behind q h.last h.counts.enqs }; history = s.history; callers = s.callers } in
-      let V : Lawful z s' = went_over h q f.0 f.1.0 there in let g = known z s' V c (MoveTailOver h q) is in
-      as_step s'.memory (turned (s.callers c) (walk h q)) (turns z s' V c (walk h q) (walk_begins z s' V c h q g.0 g.1.0
-      (past_old z s' V h.ann g.1.0.0 q g.1.0.1 g.1.0.2 (λ e. let some = (V.announced.bound h.ann g.1.0.0 g.1.0.1).some in let enqs = ap (λ (y : BatchCounts). y.enqs) (g.0.5 (omega arith)) in let count : q.count + h.counts.enqs ≡ q.count = ap (λ (p : Place). p.count) e in absurd (omega arith))) g.1.1))
-  over_moved h q false same is = let f = known z s L c (MoveTailOver h q) is in quiet z s L c (walk h q) Tail (OfTail s.memory.tail) refl
-      (walk_begins z s L c h q f.0 f.1.0 (past_old z s L h.ann f.1.0.0 q f.1.0.1 f.1.0.2 (λ e. differ (sym (same_place_refl s.memory.tail q e) ∙ same))) f.1.1)
+      let V : Lawful z s' = went_over h q f.call.0 f.here.0 there in let g = known z s' V c (turn.Help h (help.MoveTailOver q)) is in
+      as_step s'.memory (turned (s.callers c) (turn.Help h (walk h q))) (turns z s' V c (turn.Help h (walk h q)) (walk_begins z s' V c h q g.call.0 g.here.0
+      (past_old z s' V h.ann g.here.0.0 q g.here.0.1 g.here.0.2 (λ e. let some = (V.announced.bound h.ann g.here.0.0 g.here.0.1).some in let enqs = ap (λ (y : BatchCounts). y.enqs) (g.call.0.counts (omega arith)) in let count : q.count + h.counts.enqs ≡ q.count = ap (λ (p : Place). p.count) e in absurd (omega arith))) g.call.1))
+  over_moved h q false same is = let f = known z s L c (turn.Help h (help.MoveTailOver q)) is in quiet z s L c (turn.Help h (walk h q)) Tail (OfTail s.memory.tail) refl
+      (walk_begins z s L c h q f.call.0 f.here.0 (past_old z s L h.ann f.here.0.0 q f.here.0.1 f.here.0.2 (λ e. differ (sym (same_place_refl s.memory.tail q e) ∙ same))) f.call.1)
 
-  pub keeps_move_tail_over : (h : Help) (q : Place) → (s.callers c).turn ≡ MoveTailOver h q → Lawful z (step_at z s c (MoveTailOver h q))
+  pub keeps_move_tail_over : (h : Help) (q : Place) → (s.callers c).turn ≡ turn.Help h (help.MoveTailOver q) → Lawful z (step_at z s c (turn.Help h (help.MoveTailOver q)))
   keeps_move_tail_over h q is = over_moved h q (same_place s.memory.tail q) refl is
 
   -- one link of the walk, to the row n
@@ -248,19 +251,19 @@ module _ (z : Lane) (s : State) (L : Lawful z s) (c : ℕ) where
     w.0,
     w.1,
     inside,
-    λ at_head. let x = w.3 at_head in let sum = x.1 in let fits = L.head.fits in (
+    λ at_head. let x = w.3 at_head in let sum = x.1 in let fits = L.list.head.fits in (
       suc x.0,
       omega arith,
       omega arith,
       ap G0.path (let e : G0.head + suc x.0 ≡ suc (G0.head + x.0) = omega arith in e)
-          ∙ same (G0.chained (G0.head + x.0)) (G0.path (suc (G0.head + x.0))) (sym (L.rows.joined (G0.head + x.0) (omega arith) (omega arith)) ∙ ap s.memory.link x.3),
+          ∙ same (G0.chained (G0.head + x.0)) (G0.path (suc (G0.head + x.0))) (sym (L.list.rows.joined (G0.head + x.0) (omega arith) (omega arith)) ∙ ap s.memory.link x.3),
     ),
   )
 
   -- where the row of a walk has no link, the announcement has left HEAD
   walk_over : (h : Help) (r l : ℕ) → ((b : Bool) (x : ℕ) → joint b x ≡ s.memory.link r → ⊥) → Holds z (world s L.ghost) c (walks h.ann r (suc l)) → L.ghost.ann ≡ Some h.ann → ⊥
-  walk_over h r l never w at_head = let x = w.3 at_head in let sum = x.1 in let fits = L.head.fits in
-      never (G0.chained (G0.head + x.0)) (G0.path (suc (G0.head + x.0))) (sym (L.rows.joined (G0.head + x.0) (omega arith) (omega arith)) ∙ ap s.memory.link x.3)
+  walk_over h r l never w at_head = let x = w.3 at_head in let sum = x.1 in let fits = L.list.head.fits in
+      never (G0.chained (G0.head + x.0)) (G0.path (suc (G0.head + x.0))) (sym (L.list.rows.joined (G0.head + x.0) (omega arith) (omega arith)) ∙ ap s.memory.link x.3)
 
   joint_nil : (b : Bool) (x : ℕ) → joint b x ≡ Nil → ⊥
   joint_nil true x e = cc e
@@ -270,22 +273,22 @@ module _ (z : Lane) (s : State) (L : Lawful z s) (c : ℕ) where
   joint_shut true x e = cc e
   joint_shut false x e = cc e
 
-  link_walked : (h : Help) (m r l : ℕ) (x : LinkWord) → s.memory.link r ≡ x → Each z (world s L.ghost) c (turn_facts z c (s.callers c) (HelpWalk h m r l)) → Lawful z (step_with z s c (HelpWalk h m r l) (OfLink x))
-  link_walked h m r l Nil is (reading, (w, (g, (t, rest)))) = quiet z s L c (back_turn h h.back) (Link r) (OfLink Nil) (ap OfLink is) (goes_back z s L c h h.back (walk_over h r l (λ b x e. joint_nil b x (e ∙ is)) w) reading t rest)
-  link_walked h m r l Shut is (reading, (w, (g, (t, rest)))) = quiet z s L c (back_turn h h.back) (Link r) (OfLink Shut) (ap OfLink is) (goes_back z s L c h h.back (walk_over h r l (λ b x e. joint_shut b x (e ∙ is)) w) reading t rest)
-  link_walked h m r l (Single n) is (reading, (w, (g, (t, rest)))) = quiet z s L c (walk_on h m n l) (Link r) (OfLink (Single n)) (ap OfLink is)
-      (on_walk z s L c h m n l reading (walk_next h.ann r l n (subst (LinksIn z.rows) is (L.links r)) (λ b x e. names b x (e ∙ is)) w) g t rest) where
+  link_walked : (h : Help) (m r l : ℕ) (x : LinkWord) → s.memory.link r ≡ x → AtTurn z (world s L.ghost) c (s.callers c) (turn.Help h (help.LoadWalk m r l)) → Lawful z (step_with z s c (turn.Help h (help.LoadWalk m r l)) (OfLink x))
+  link_walked h m r l Nil is f = quiet z s L c (back_turn h h.back) (Link r) (OfLink Nil) (ap OfLink is) (goes_back z s L c h h.back (walk_over h r l (λ b x e. joint_nil b x (e ∙ is)) f.here.0) f.call.0 f.here.1.1.0 f.call.1)
+  link_walked h m r l Shut is f = quiet z s L c (back_turn h h.back) (Link r) (OfLink Shut) (ap OfLink is) (goes_back z s L c h h.back (walk_over h r l (λ b x e. joint_shut b x (e ∙ is)) f.here.0) f.call.0 f.here.1.1.0 f.call.1)
+  link_walked h m r l (Single n) is f = quiet z s L c (turn.Help h (walk_on m n l)) (Link r) (OfLink (Single n)) (ap OfLink is)
+      (on_walk z s L c h m n l f.call.0 (walk_next h.ann r l n (subst (LinksIn z.rows) is (L.list.links r)) (λ b x e. names b x (e ∙ is)) f.here.0) f.here.1.0 f.here.1.1.0 f.call.1) where
         names : (b : Bool) (x : ℕ) → joint b x ≡ Single n → x ≡ n
         names true x e = absurd (cc e)
         names false x e = cc e
-  link_walked h m r l (Chain n) is (reading, (w, (g, (t, rest)))) = quiet z s L c (walk_on h m n l) (Link r) (OfLink (Chain n)) (ap OfLink is)
-      (on_walk z s L c h m n l reading (walk_next h.ann r l n (subst (LinksIn z.rows) is (L.links r)) (λ b x e. names b x (e ∙ is)) w) g t rest) where
+  link_walked h m r l (Chain n) is f = quiet z s L c (turn.Help h (walk_on m n l)) (Link r) (OfLink (Chain n)) (ap OfLink is)
+      (on_walk z s L c h m n l f.call.0 (walk_next h.ann r l n (subst (LinksIn z.rows) is (L.list.links r)) (λ b x e. names b x (e ∙ is)) f.here.0) f.here.1.0 f.here.1.1.0 f.call.1) where
         names : (b : Bool) (x : ℕ) → joint b x ≡ Chain n → x ≡ n
         names true x e = cc e
         names false x e = absurd (cc e)
 
-  pub keeps_help_walk : (h : Help) (m r l : ℕ) → (s.callers c).turn ≡ HelpWalk h m r l → Lawful z (step_at z s c (HelpWalk h m r l))
-  keeps_help_walk h m r l is = link_walked h m r l (s.memory.link r) refl (known z s L c (HelpWalk h m r l) is)
+  pub keeps_help_walk : (h : Help) (m r l : ℕ) → (s.callers c).turn ≡ turn.Help h (help.LoadWalk m r l) → Lawful z (step_at z s c (turn.Help h (help.LoadWalk m r l)))
+  keeps_help_walk h m r l is = link_walked h m r l (s.memory.link r) refl (known z s L c (turn.Help h (help.LoadWalk m r l)) is)
 
   -- HEAD moves from the announcement to the new dummy
   module _ (h : Help) (m r n : ℕ) (reading : Holds z (world s L.ghost) c (reads 4 h)) (w : Holds z (world s L.ghost) c (walks h.ann r 0)) (g : Holds z (world s L.ghost) c (gets_so_many h m)) (t : Holds z (world s L.ghost) c (tail_over h.ann))
@@ -309,7 +312,7 @@ module _ (z : Lane) (s : State) (L : Lawful z s) (c : ℕ) where
     V = record { memory = memory_head; history = s.history; ghost = H }
 
     same_end : L.ghost.head + L.ghost.shown + L.ghost.queued ≡ L.ghost.head + L.ghost.rest
-    same_end = let fits = L.head.fits in omega arith
+    same_end = let fits = L.list.head.fits in omega arith
 
     moving : Grows z (λ _. ⊥) (world s L.ghost) V
     moving = let e = same_end in record {
@@ -331,7 +334,7 @@ module _ (z : Lane) (s : State) (L : Lawful z s) (c : ℕ) where
     row_is = let x = w.3 at_head in let sum = x.1 in sym x.3 ∙ ap (λ (y : ℕ). L.ghost.path (L.ghost.head + y)) (let e : x.0 ≡ L.ghost.shown = omega arith in e)
 
     head_named : Node (far_behind h.old_head r m) ≡ Node (at z.first L.ghost.path (L.ghost.head + L.ghost.shown))
-    head_named = let count = ap (λ (p : Place). p.count) (sym (reading.2 (omega arith)) ∙ L.announced.old_head h.ann at_head) in let shown = g.2 at_head in
+    head_named = let count = ap (λ (p : Place). p.count) (sym (reading.old_head (omega arith)) ∙ L.announced.old_head h.ann at_head) in let shown = g.2 at_head in
         λ i. Node (record { row = row_is i; count = (let e : h.old_head.count + m ≡ z.first + (L.ghost.head + L.ghost.shown) = omega arith in e) i })
 
     announced' : Announced z memory_head H
@@ -349,46 +352,45 @@ module _ (z : Lane) (s : State) (L : Lawful z s) (c : ℕ) where
     }
 
     head_moved : Lawful z record { memory = record s.memory { head = Node (far_behind h.old_head r m) }; history = s.history; callers = s.callers }
-    head_moved = let e = same_end in let within = L.tail.within in let over = t.3 at_head in let inside = (L.announced.standing h.ann t.0 at_head t.1).inside in record {
+    head_moved = let e = same_end in let within = L.list.tail.within in let over = t.3 at_head in let inside = (L.announced.standing h.ann t.0 at_head t.1).inside in record {
       ghost = H;
       history = L.history;
       queue = L.queue ∙ ap (λ (y : ℕ). run (λ i. s.memory.value (L.ghost.path i)) (suc y) L.ghost.queued) (let f : L.ghost.head + L.ghost.shown ≡ L.ghost.head + L.ghost.shown + 0 = omega arith in f);
-      rows = record {
-        joined = λ i from below. L.rows.joined i (omega arith) (omega arith);
-        last = ap (λ (i : ℕ). s.memory.link (L.ghost.path i)) e ∙ L.rows.last;
-        spots = λ i from below. L.rows.spots i (omega arith) (omega arith);
-        inside = λ i below. L.rows.inside i (omega arith);
+      list = record {
+        rows = record {
+          joined = λ i from below. L.list.rows.joined i (omega arith) (omega arith);
+          last = ap (λ (i : ℕ). s.memory.link (L.ghost.path i)) e ∙ L.list.rows.last;
+          spots = λ i from below. L.list.rows.spots i (omega arith) (omega arith);
+          inside = λ i below. L.list.rows.inside i (omega arith);
+        };
+        item_rows = λ i above below. L.list.item_rows i (omega arith) (omega arith);
+        head = record { named = head_named; none = λ _. refl; fits = omega arith };
+        tail = record { named = L.list.tail.named; after_head = omega arith; within = omega arith; lags = λ below single. let l = L.list.tail.lags (omega arith) single in omega arith };
+        counts = let made = L.list.counts in omega arith;
+        links = L.list.links;
       };
-      item_rows = λ i above below. L.item_rows i (omega arith) (omega arith);
-      head = record { named = head_named; none = λ _. refl; fits = omega arith };
-      tail = record { named = L.tail.named; after_head = omega arith; within = omega arith; lags = λ below single. let l = L.tail.lags (omega arith) single in omega arith };
-      counts = let made = L.counts in omega arith;
-      links = L.links;
       announced = announced';
       told = λ x none. absurd (some_none (sym none));
       pending = λ x waits. absurd (none_waits x waits);
-      unmade = L.unmade;
-      own_groups = L.own_groups;
-      allowed = L.allowed;
-      kept_facts = λ d. all_stay z (λ _. ⊥) (world s L.ghost) V moving d (λ _ _ x. x) refl (drafts_same z (world s L.ghost) V refl refl refl d) (facts z d (s.callers d)) (L.kept_facts d);
+      callers = λ d. caller_stays z (λ _. ⊥) (world s L.ghost) V moving d (s.callers d) (λ _ _ x. x) (record { landed = refl; made = refl; drafts = drafts_same z (world s L.ghost) V refl refl refl d; unmade = (L.callers d).unmade }) (L.callers d);
     }
 
   -- HEAD has another word than the announcement's, so that doesn't stand
   not_there : (h : Help) (x : HeadWord) → s.memory.head ≡ x → is_ann x h.ann h.old_head.count ≡ false → (s.memory.said h.ann).old_head ≡ h.old_head → L.ghost.ann ≡ Some h.ann → ⊥
-  not_there h x at_x apart old at_head = differ (sym (ap (λ (y : HeadWord). is_ann y h.ann h.old_head.count) (sym at_x ∙ (L.head.named ∙ ap (head_word z.first L.ghost.path L.ghost.head) at_head)) ∙
+  not_there h x at_x apart old at_head = differ (sym (ap (λ (y : HeadWord). is_ann y h.ann h.old_head.count) (sym at_x ∙ (L.list.head.named ∙ ap (head_word z.first L.ghost.path L.ghost.head) at_head)) ∙
       and_from (eqb h.ann h.ann) (eqb (z.first + L.ghost.head) h.old_head.count) (eq-eqb h.ann h.ann refl) (eq-eqb (z.first + L.ghost.head) h.old_head.count (ap (λ (p : Place). p.count) (sym (L.announced.old_head h.ann at_head) ∙ old)))) ∙ apart)
 
   no_ann : (s' : State) (V : Lawful z s') (a : ℕ) (p : Place) → s'.memory.head ≡ Node p → V.ghost.ann ≡ Some a → ⊥
-  no_ann s' V a p node at_head = not_ann p a (z.first + V.ghost.head) (sym node ∙ (V.head.named ∙ ap (head_word z.first V.ghost.path V.ghost.head) at_head))
+  no_ann s' V a p node at_head = not_ann p a (z.first + V.ghost.head) (sym node ∙ (V.list.head.named ∙ ap (head_word z.first V.ghost.path V.ghost.head) at_head))
 
-  ann_found : (h : Help) (m r : ℕ) (x : HeadWord) → s.memory.head ≡ x → (b : Bool) → is_ann x h.ann h.old_head.count ≡ b → (s.callers c).turn ≡ MoveHeadAnn h m r
+  ann_found : (h : Help) (m r : ℕ) (x : HeadWord) → s.memory.head ≡ x → (b : Bool) → is_ann x h.ann h.old_head.count ≡ b → (s.callers c).turn ≡ turn.Help h (help.MoveHead m r)
       → Lawful z (changed s c (write s.memory Head (cond b (OfHead (Node (far_behind h.old_head r m))) (OfHead x))) [] (turned (s.callers c) (back_turn h h.back)))
-  ann_found h m r x at_x false apart is = let f = known z s L c (MoveHeadAnn h m r) is in quiet z s L c (back_turn h h.back) Head (OfHead x) (ap OfHead at_x) (goes_back z s L c h h.back (λ at_head. not_there h x at_x apart (f.0.2 (omega arith)) at_head) f.0 f.1.1.1.0 f.1.1.1.1)
+  ann_found h m r x at_x false apart is = let f = known z s L c (turn.Help h (help.MoveHead m r)) is in quiet z s L c (back_turn h h.back) Head (OfHead x) (ap OfHead at_x) (goes_back z s L c h h.back (λ at_head. not_there h x at_x apart (f.call.0.old_head (omega arith)) at_head) f.call.0 f.here.1.1.0 f.call.1)
   ann_found h m r (Node p) at_x true e is = absurd (cc e)
-  ann_found h m r (Ann y n) at_x true e is = let f = known z s L c (MoveHeadAnn h m r) is in let both = and_parts (eqb y h.ann) (eqb n h.old_head.count) e in
+  ann_found h m r (Ann y n) at_x true e is = let f = known z s L c (turn.Help h (help.MoveHead m r)) is in let both = and_parts (eqb y h.ann) (eqb n h.old_head.count) e in
       let s' : State = record { memory = record s.memory { head = Node (far_behind h.old_head r m) }; history = s.history; callers = s.callers } in
-      let V : Lawful z s' = head_moved h m r n f.0 f.1.0 f.1.1.0 f.1.1.1.0 (at_x ∙ ap (λ (b : ℕ). Ann b n) (eqb-true y h.ann both.0)) in let g = known z s' V c (MoveHeadAnn h m r) is in
-      as_step s'.memory (turned (s.callers c) (back_turn h h.back)) (turns z s' V c (back_turn h h.back) (goes_back z s' V c h h.back (no_ann s' V h.ann (far_behind h.old_head r m) refl) g.0 g.1.1.1.0 g.1.1.1.1))
+      let V : Lawful z s' = head_moved h m r n f.call.0 f.here.0 f.here.1.0 f.here.1.1.0 (at_x ∙ ap (λ (b : ℕ). Ann b n) (eqb-true y h.ann both.0)) in let g = known z s' V c (turn.Help h (help.MoveHead m r)) is in
+      as_step s'.memory (turned (s.callers c) (back_turn h h.back)) (turns z s' V c (back_turn h h.back) (goes_back z s' V c h h.back (no_ann s' V h.ann (far_behind h.old_head r m) refl) g.call.0 g.here.1.1.0 g.call.1))
 
-  pub keeps_move_head_ann : (h : Help) (m r : ℕ) → (s.callers c).turn ≡ MoveHeadAnn h m r → Lawful z (step_at z s c (MoveHeadAnn h m r))
+  pub keeps_move_head_ann : (h : Help) (m r : ℕ) → (s.callers c).turn ≡ turn.Help h (help.MoveHead m r) → Lawful z (step_at z s c (turn.Help h (help.MoveHead m r)))
   keeps_move_head_ann h m r is = ann_found h m r s.memory.head refl (is_ann s.memory.head h.ann h.old_head.count) refl is

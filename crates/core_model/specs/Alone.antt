@@ -2,7 +2,7 @@
 use Rattle.std.specs.Prelude.{◌≡◌, ◌⊎◌, ℕ, ◌++◌, [], ◌∷◌}
 use Rattle.core_model.specs.declared.turn.Turn.TheVariants.{Idle}
 use Rattle.core_model.specs.State.{Caller}
-use Rattle.core_model.specs.Step.{own_group}
+use Rattle.core_model.specs.State.{own_group}
 
 -- The caller keeps its command's operations and the groups that it made, or its command's group has joined these and it
 -- is idle.

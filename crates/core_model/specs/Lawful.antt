@@ -16,15 +16,14 @@ use Rattle.core_model.specs.declared.turn.Notice.{Notice}
 use Rattle.core_model.specs.declared.turn.Back.{Back}
 use Rattle.core_model.specs.declared.turn.Back.TheVariants as back
 use Rattle.core_model.specs.declared.turn.Turn.{Turn}
-use Rattle.core_model.specs.declared.turn.Turn.TheVariants.{HelpOldHead, HelpFirst, HelpLast, HelpCounts, HelpTail, HelpOldTail, HelpLink, LinkChain, HelpPass, RecordTail, HelpOver, MoveTailOver, HelpWalk, MoveHeadAnn}
+use Rattle.core_model.specs.declared.turn.Turn.TheVariants as turn
 use Rattle.core_model.specs.Functions.{run}
 use Rattle.core_model.specs.Lane.{Lane, item, IsItem}
 use Rattle.core_model.specs.Batches.{own_ann, owner_of, gets, many_count}
-use Rattle.core_model.specs.State.{Memory, Caller, State, command}
+use Rattle.core_model.specs.State.{Memory, Caller, State, command, own_group}
 use Rattle.core_model.specs.Start.{anns_taken}
-use Rattle.core_model.specs.Step.{own_group}
-use Rattle.core_model.specs.Ghost.{Stage, unused, waiting, decided, Ghost, joint, at}
-use Rattle.core_model.specs.Facts.{Tells, Each, facts}
+use Rattle.core_model.specs.Ghost.{Stage, unused, waiting, decided, Ghost, World, joint, at}
+use Rattle.core_model.specs.Facts.{Tells, Knows}
 
 -- the values of the rows behind the shown head, first to last
 abbrev pub shown_queue : (ℕ → ℕ) → Ghost → List ℕ
@@ -127,20 +126,7 @@ IsOwn back.Own = Unit {0}
 IsOwn _ = ⊥
 
 abbrev pub HelpsOwn : Turn → Type 0
-HelpsOwn (HelpOldHead h) = IsOwn h.back
-HelpsOwn (HelpFirst h) = IsOwn h.back
-HelpsOwn (HelpLast h) = IsOwn h.back
-HelpsOwn (HelpCounts h) = IsOwn h.back
-HelpsOwn (HelpTail h) = IsOwn h.back
-HelpsOwn (HelpOldTail h p) = IsOwn h.back
-HelpsOwn (HelpLink h p) = IsOwn h.back
-HelpsOwn (LinkChain h p) = IsOwn h.back
-HelpsOwn (HelpPass h p n) = IsOwn h.back
-HelpsOwn (RecordTail h p) = IsOwn h.back
-HelpsOwn (HelpOver h q) = IsOwn h.back
-HelpsOwn (MoveTailOver h q) = IsOwn h.back
-HelpsOwn (HelpWalk h m r l) = IsOwn h.back
-HelpsOwn (MoveHeadAnn h m r) = IsOwn h.back
+HelpsOwn (turn.Help h p) = IsOwn h.back
 HelpsOwn _ = ⊥
 
 -- An announcement in HEAD says what the command of its owner c, which keeps k, is, and the owner helps it. Where it is
@@ -178,23 +164,34 @@ Waits z m g callers a = g.stage a ≡ waiting → Pending z m.link m.value g.spo
 abbrev pub Unmade : Lane → (ℕ → Stage) → ℕ → Caller → Type 0
 Unmade z stage c k = (i : ℕ) → k.made ≤ i → i < z.callers → stage (own_ann z c i) ≡ unused
 
+-- the list of rows with HEAD and TAIL, in a lane whose history has so many operations
+pub record Ordered (z : Lane) (head_is : HeadWord) (tail_is : Place) (link : ℕ → LinkWord) (made : ℕ) (path : ℕ → ℕ) (chained : ℕ → Bool) (spot : ℕ → Option ℕ)
+    (first_at rest tail_at : ℕ) (ann : Option ℕ) (shown queued : ℕ) : Type 0 where
+  pub rows : Listed z.rows link path chained spot first_at rest
+  pub item_rows : ItemRows z path first_at rest shown
+  pub head : Headed z.first head_is path first_at rest ann shown queued
+  pub tail : Tailed z.first tail_is path chained first_at rest tail_at
+  -- each linked row came with an operation of the history
+  pub counts : first_at + rest ≤ made
+  pub links : (r : ℕ) → LinksIn z.rows (link r)
+
+abbrev pub InOrder : Lane → Memory → List Group → Ghost → Type 0
+InOrder z m h g = Ordered z m.head m.tail m.link (length (operations h)) g.path g.chained g.spot g.head g.rest g.tail g.ann g.shown g.queued
+
+-- what is true of caller c, which keeps k
+pub record OfCaller (z : Lane) (w : World) (c : ℕ) (k : Caller) : Type 0 where
+  pub unmade : Unmade z w.ghost.stage c k
+  pub own_groups : OwnGroups c w.history k (w.ghost.landed c)
+  pub allowed : Allowed z k.mine k.ops k.taken k.made
+  pub knows : Knows z w c k
+
 pub record Lawful (z : Lane) (s : State) : Type 0 where
   pub ghost : Ghost
   -- the history is proper, and the shown queue is its last queue
   pub history : IsProper z.callers s.history
   pub queue : last_queue s.history ≡ shown_queue s.memory.value ghost
-  pub rows : Listed z.rows s.memory.link ghost.path ghost.chained ghost.spot ghost.head ghost.rest
-  pub item_rows : ItemRows z ghost.path ghost.head ghost.rest ghost.shown
-  pub head : Headed z.first s.memory.head ghost.path ghost.head ghost.rest ghost.ann ghost.shown ghost.queued
-  pub tail : Tailed z.first s.memory.tail ghost.path ghost.chained ghost.head ghost.rest ghost.tail
-  -- each linked row came with an operation of the history
-  pub counts : ghost.head + ghost.rest ≤ length (operations s.history)
-  pub links : (r : ℕ) → LinksIn z.rows (s.memory.link r)
+  pub list : InOrder z s.memory s.history ghost
   pub announced : Announced z s.memory ghost
   pub told : (a : ℕ) → IsTold z s.memory ghost s.callers a
   pub pending : (a : ℕ) → Waits z s.memory ghost s.callers a
-  pub unmade : (c : ℕ) → Unmade z ghost.stage c (s.callers c)
-  pub own_groups : (c : ℕ) → OwnGroups c s.history (s.callers c) (ghost.landed c)
-  pub allowed : (c : ℕ) → Allowed z (s.callers c).mine (s.callers c).ops (s.callers c).taken (s.callers c).made
-  -- what each caller has read and keeps is true
-  pub kept_facts : (c : ℕ) → Each z record { memory = s.memory; history = s.history; ghost = ghost } c (facts z c (s.callers c))
+  pub callers : (c : ℕ) → OfCaller z record { memory = s.memory; history = s.history; ghost = ghost } c (s.callers c)

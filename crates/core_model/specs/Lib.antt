@@ -4,8 +4,14 @@ pub mod Lane
 pub mod Notices
 pub mod Batches
 pub mod State
+pub mod Act
+pub mod Fact
+pub mod Help
+pub mod Enqueue
+pub mod Dequeue
+pub mod Batch
+pub mod Answer
 pub mod Step
-pub mod Course
 pub mod Start
 pub mod Kind
 pub mod Ranges

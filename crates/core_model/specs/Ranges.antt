@@ -7,7 +7,11 @@ use Rattle.word_rows.specs.declared.link_word.LinkWord.TheVariants.{Single, Chai
 use Rattle.word_rows.specs.declared.location.Location.{Location}
 use Rattle.word_rows.specs.declared.location.Location.TheVariants.{Head, Tail, Link, Value, AnnWord}
 use Rattle.core_model.specs.declared.turn.Turn.{Turn}
-use Rattle.core_model.specs.declared.turn.Turn.TheVariants.{EnqPass, EnqLast, DeqPass, MoveHead, BatchValue, BatchChain, HelpPass, MoveTailOver, MoveHeadAnn}
+use Rattle.core_model.specs.declared.turn.DequeuePoint.TheVariants as deq
+use Rattle.core_model.specs.declared.turn.BatchPoint.TheVariants as batch
+use Rattle.core_model.specs.declared.turn.Turn.TheVariants as turn
+use Rattle.core_model.specs.declared.turn.EnqueuePoint.TheVariants as enq
+use Rattle.core_model.specs.declared.turn.HelpPoint.TheVariants as help
 
 -- a word of a lane with so many rows and announcements
 abbrev pub IsWord : ℕ → ℕ → Location → Type 0
@@ -18,19 +22,19 @@ IsWord rows anns _ = Unit {0}
 
 -- the row that the step counts out
 abbrev pub RowsFit : Turn → Type 0
-RowsFit (BatchValue d i v) = d.notice.first + i < 2 ^ 31
-RowsFit (BatchChain d i) = d.notice.first + i < 2 ^ 31
+RowsFit (turn.Batch d (batch.StoreValue i v)) = d.notice.first + i < 2 ^ 31
+RowsFit (turn.Batch d (batch.StoreChain i)) = d.notice.first + i < 2 ^ 31
 RowsFit _ = Unit {0}
 
 -- the count that the step stores
 abbrev pub CountsFit : Turn → Type 0
-CountsFit (EnqPass x p n) = p.count < 2 ^ 44
-CountsFit (EnqLast p n) = p.count < 2 ^ 44
-CountsFit (DeqPass p n) = p.count < 2 ^ 44
-CountsFit (MoveHead p n v) = p.count < 2 ^ 44
-CountsFit (HelpPass h p n) = p.count < 2 ^ 44
-CountsFit (MoveTailOver h q) = q.count + h.counts.enqs < 2 ^ 44
-CountsFit (MoveHeadAnn h m r) = h.old_head.count + m < 2 ^ 44
+CountsFit (turn.Enqueue x (enq.PassTail p n)) = p.count < 2 ^ 44
+CountsFit (turn.Enqueue x (enq.MoveTail p n)) = p.count < 2 ^ 44
+CountsFit (turn.Dequeue (deq.PassTail p n)) = p.count < 2 ^ 44
+CountsFit (turn.Dequeue (deq.MoveHead p n v)) = p.count < 2 ^ 44
+CountsFit (turn.Help h (help.PassTail p n)) = p.count < 2 ^ 44
+CountsFit (turn.Help h (help.MoveTailOver q)) = q.count + h.counts.enqs < 2 ^ 44
+CountsFit (turn.Help h (help.MoveHead m r)) = h.old_head.count + m < 2 ^ 44
 CountsFit _ = Unit {0}
 
 -- what is found in HEAD, in TAIL or in a link names rows of a lane with so many, and has counts below the limit

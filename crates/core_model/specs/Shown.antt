@@ -7,7 +7,7 @@ use Rattle.word_rows.specs.declared.link_word.LinkWord.{LinkWord}
 use Rattle.word_rows.specs.declared.link_word.LinkWord.TheVariants.{Nil, Single, Chain, Shut}
 use Rattle.core_model.specs.Batches.{gets}
 use Rattle.core_model.specs.State.{Memory}
-use Rattle.core_model.specs.Step.{is_unknown}
+use Rattle.core_model.specs.Act.{is_unknown}
 
 -- the row that a link names, if any
 abbrev pub linked_row : LinkWord → Option ℕ

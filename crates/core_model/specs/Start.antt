@@ -10,7 +10,11 @@ use Rattle.word_rows.specs.declared.head_word.HeadWord.TheVariants.{Node}
 use Rattle.word_rows.specs.declared.link_word.LinkWord.TheVariants.{Nil}
 use Rattle.core_model.specs.declared.turn.Draft.{Draft}
 use Rattle.core_model.specs.declared.turn.Turn.{Turn}
-use Rattle.core_model.specs.declared.turn.Turn.TheVariants.{Idle, StoreValue, DeqHead, BatchValue}
+use Rattle.core_model.specs.declared.turn.Turn.TheVariants.{Idle}
+use Rattle.core_model.specs.declared.turn.DequeuePoint.TheVariants as deq
+use Rattle.core_model.specs.declared.turn.BatchPoint.TheVariants as batch
+use Rattle.core_model.specs.declared.turn.Turn.TheVariants as turn
+use Rattle.core_model.specs.declared.turn.EnqueuePoint.TheVariants as enq
 use Rattle.core_model.specs.declared.turn.CallEnd.TheVariants.{Full}
 use Rattle.core_model.specs.Functions.{put}
 use Rattle.core_model.specs.Lane.{Lane, item}
@@ -45,9 +49,9 @@ draft_of z c k ops = record { ann = own_ann z c k.made; notice = notice_of c (le
 -- how the command of caller c begins
 abbrev pub first_turn : Lane → ℕ → Caller → List Op → Turn
 first_turn z c k [] = Idle
-first_turn z c k (Enq v ∷ []) = StoreValue record { row = item z c k.taken; value = v }
-first_turn z c k (Deq ∷ []) = DeqHead
-first_turn z c k (op ∷ next ∷ ops) = BatchValue (draft_of z c k (op ∷ next ∷ ops)) 0 (get_or (enqueued (op ∷ next ∷ ops)) 0 0)
+first_turn z c k (Enq v ∷ []) = turn.Enqueue (record { row = item z c k.taken; value = v }) enq.StoreValue
+first_turn z c k (Deq ∷ []) = (turn.Dequeue deq.LoadHead)
+first_turn z c k (op ∷ next ∷ ops) = turn.Batch (draft_of z c k (op ∷ next ∷ ops)) (batch.StoreValue 0 (get_or (enqueued (op ∷ next ∷ ops)) 0 0))
 
 -- Of caller c, which keeps k, when the history has n groups.
 module _ (z : Lane) (n c : ℕ) (k : Caller) where

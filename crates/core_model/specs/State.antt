@@ -1,5 +1,5 @@
 -- The state of a lane: its words, the history, and what each caller keeps.
-use Rattle.std.specs.Prelude.{ℕ, List, Option, None}
+use Rattle.std.specs.Prelude.{ℕ, List, length, Option, None}
 use Rattle.bq_model.specs.declared.op.Op.{Op}
 use Rattle.bq_model.specs.declared.op.Answer.{Answer}
 use Rattle.bq_model.specs.declared.group.Group.{Group}
@@ -60,6 +60,10 @@ pub record Command : Type 0 where
 
 abbrev pub command : Caller → Command
 command k = record { ops = k.ops; mine = k.mine; taken = k.taken; made = k.made; started_at = k.started_at }
+
+-- the group of the running command of caller c
+abbrev pub own_group : ℕ → Caller → Group
+own_group c k = record { caller = c; batch = length k.mine; ops = k.ops }
 
 pub record State : Type 0 where
   pub memory : Memory

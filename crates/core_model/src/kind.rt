@@ -49,27 +49,11 @@ impl Turn {
     {
         Some(match self {
             Turn::Idle => return None,
-            Turn::StoreValue(_) | Turn::BatchValue(..) => StepKind::StoreValue,
-            Turn::EnqTail(_) | Turn::DeqTail(..) | Turn::DeqOver(..) => StepKind::LoadTail,
-            Turn::HelpTail(_) | Turn::HelpOver(..) => StepKind::LoadTail,
-            Turn::EnqLink(..) | Turn::DeqLink(_) | Turn::HelpLink(..) => StepKind::LoadLink,
-            Turn::HelpWalk(..) | Turn::AnswerLink(..) => StepKind::LoadLink,
-            Turn::LinkSingle(..) => StepKind::LinkSingle,
-            Turn::EnqPass(..) | Turn::EnqLast(..) | Turn::DeqPass(..) => StepKind::MoveTail,
-            Turn::HelpPass(..) => StepKind::MoveTail,
-            Turn::EnqHead(_) | Turn::DeqHead | Turn::BatchHead(_) => StepKind::LoadHead,
-            Turn::DeqValue(..) | Turn::AnswerValue(..) => StepKind::LoadValue,
-            Turn::MoveHead(..) => StepKind::MoveHead,
-            Turn::BatchChain(..) => StepKind::StoreChain,
-            Turn::BatchField(..) => StepKind::StoreAnn,
-            Turn::Install(_) => StepKind::Install,
-            Turn::HelpOldHead(_) | Turn::HelpFirst(_) | Turn::HelpLast(_) => StepKind::LoadAnn,
-            Turn::HelpCounts(_) | Turn::HelpOldTail(..) => StepKind::LoadAnn,
-            Turn::AnswerTail(_) => StepKind::LoadAnn,
-            Turn::LinkChain(..) => StepKind::LinkChain,
-            Turn::RecordTail(..) => StepKind::RecordTail,
-            Turn::MoveTailOver(..) => StepKind::MoveTailOver,
-            Turn::MoveHeadAnn(..) => StepKind::MoveHeadAnn,
+            Turn::Enqueue(_, point) => point.kind(),
+            Turn::Dequeue(point) => point.kind(),
+            Turn::Batch(_, point) => point.kind(),
+            Turn::Help(_, point) => point.kind(),
+            Turn::Answer(point) => point.kind(),
         })
     }
 }

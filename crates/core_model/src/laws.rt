@@ -10,7 +10,9 @@ ghost use Rattle.word_rows.specs.declared.link_word.LinkWord.TheVariants.{Nil};
 ghost use Rattle.word_rows.specs.declared.place.Place.{Place};
 ghost use Rattle.core_model.specs.declared.turn.CallEnd.TheVariants.{Done};
 ghost use Rattle.core_model.specs.declared.turn.Help.{Help};
-ghost use Rattle.core_model.specs.declared.turn.Turn.TheVariants.{Idle, LinkChain};
+ghost use Rattle.core_model.specs.declared.turn.Turn.{Turn};
+ghost use Rattle.core_model.specs.declared.turn.HelpPoint.{HelpPoint};
+ghost use Rattle.core_model.specs.declared.turn.Turn.TheVariants.{Idle};
 ghost use Rattle.core_model.specs.Alone.{GoesOnOrEnds};
 ghost use Rattle.core_model.specs.Ended.{EndedDone};
 ghost use Rattle.core_model.specs.Lane.{Lane, lane_of};
@@ -21,8 +23,8 @@ ghost use Rattle.core_model.specs.Start.{PassesAllowance, IsCommand, LacksRows, 
 ghost use Rattle.core_model.specs.Batches.{owner_of};
 ghost use Rattle.core_model.specs.Facts.{Tells};
 ghost use Rattle.core_model.specs.Shown.{Shows};
-ghost use Rattle.core_model.specs.State.{State, command, read};
-ghost use Rattle.core_model.specs.Step.{target, own_group, grown, next};
+ghost use Rattle.core_model.specs.State.{State, command, read, own_group};
+ghost use Rattle.core_model.specs.Step.{target, grown, next};
 
 /// An empty lane is lawful, and it stays so at each step of each caller and at each start of a command.
 pub fn each_event_keeps_the_lane_lawful()
@@ -77,6 +79,6 @@ pub fn words_show_the_last_queue()
 pub fn announced_batch_is_its_owners()
     ensures told { (z : Lane) (s : State) (a n : ℕ) → Lawful z s → s.memory.head ≡ Ann a n
         → Tells (owner_of z a) (command (s.callers (owner_of z a))) (s.memory.said a) }
-    ensures added { (z : Lane) (s : State) (c : ℕ) (h : Help) (p : Place) → (s.callers c).turn ≡ LinkChain h p → s.memory.link p.row ≡ Nil
+    ensures added { (z : Lane) (s : State) (c : ℕ) (h : Help) (p : Place) → (s.callers c).turn ≡ Turn.Help h (HelpPoint.LinkChain p) → s.memory.link p.row ≡ Nil
         → (next z s c).history ≡ s.history ++ own_group (owner_of z h.ann) (s.callers (owner_of z h.ann)) ∷ [] }
 {}

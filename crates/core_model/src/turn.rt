@@ -63,83 +63,118 @@ pub struct Help {
     pub back: Back,
 }
 
-/// Each variant names the step that comes next, and has what that step and the later ones of the call need.
+/// Where an enqueue is: the step that comes next.
+#[derive(Clone, Copy, Debug, PartialEq, Eq, Hash)]
+pub enum EnqueuePoint {
+    /// It stores its value.
+    StoreValue,
+    /// It loads the tail.
+    LoadTail,
+    /// It loads the link of the tail's row.
+    LoadLink(Place),
+    /// It links its row behind the tail's row.
+    LinkSingle(Place),
+    /// It moves the tail over another caller's row, and begins again.
+    PassTail(Place, u32),
+    /// It moves the tail over its own row, and is done.
+    MoveTail(Place, u32),
+    /// It met a chain, and loads the head.
+    LoadHead,
+}
+
+/// Where a help is: the step that comes next.
+#[derive(Clone, Copy, Debug, PartialEq, Eq, Hash)]
+pub enum HelpPoint {
+    /// It loads OldHead.
+    LoadOldHead,
+    /// It loads the first row.
+    LoadFirst,
+    /// It loads the last row.
+    LoadLast,
+    /// It loads the counts.
+    LoadCounts,
+    /// It loads the tail.
+    LoadTail,
+    /// It loads OldTail.
+    LoadOldTail(Place),
+    /// It loads the link of the tail's row.
+    LoadLink(Place),
+    /// It links the chain behind the tail's row.
+    LinkChain(Place),
+    /// It moves the tail over one row, and begins again.
+    PassTail(Place, u32),
+    /// It records the tail behind which the chain is linked.
+    RecordTail(Place),
+    /// It knows OldTail, and loads the tail.
+    LoadTailOver(Place),
+    /// It moves the tail over the chain.
+    MoveTailOver(Place),
+    /// The batch gets so many values; it loads the link of the row, with so many links to go.
+    LoadWalk(u32, u32, u32),
+    /// The batch gets so many values; it moves the head to the row.
+    MoveHead(u32, u32),
+}
+
+/// Where a dequeue is: the step that comes next.
+#[derive(Clone, Copy, Debug, PartialEq, Eq, Hash)]
+pub enum DequeuePoint {
+    /// It loads the head.
+    LoadHead,
+    /// It loads the link of the dummy.
+    LoadLink(Place),
+    /// It loads the tail, after a Single link to the row.
+    LoadTail(Place, u32),
+    /// It loads the tail, after a Chain link to the row.
+    LoadTailOver(Place, u32),
+    /// It moves a tail that names the dummy, and begins again.
+    PassTail(Place, u32),
+    /// It loads the value of the row behind the dummy.
+    LoadValue(Place, u32),
+    /// It moves the head to that row.
+    MoveHead(Place, u32, u64),
+}
+
+/// Where the owner of a batch is, until its announcement is installed: the step that comes next.
+#[derive(Clone, Copy, Debug, PartialEq, Eq, Hash)]
+pub enum BatchPoint {
+    /// It stores the value of its enqueue of this number.
+    StoreValue(u32, u64),
+    /// It links its row of this number to the next one.
+    StoreChain(u32),
+    /// It stores a field of its announcement.
+    StoreField(AnnField),
+    /// It loads the head.
+    LoadHead,
+    /// It installs its announcement.
+    Install,
+}
+
+/// Where the owner of a finished batch is: the step that comes next.
+#[derive(Clone, Copy, Debug, PartialEq, Eq, Hash)]
+pub enum AnswerPoint {
+    /// It loads OldTail.
+    LoadOldTail(Help),
+    /// The batch was on so many values; it loads the link of the row, with so many values to go.
+    LoadLink(u64, u32, u32),
+    /// The batch was on so many values; it loads the value of the row, with so many values to go behind it.
+    LoadValue(u64, u32, u32),
+}
+
+/// Where a caller is in its command, with what it has read.
 #[derive(Clone, Copy, Debug, PartialEq, Eq, Hash)]
 pub enum Turn {
     /// No command runs.
     Idle,
-    /// An enqueue stores its value.
-    StoreValue(Item),
-    /// An enqueue loads the tail.
-    EnqTail(Item),
-    /// An enqueue loads the link of the tail's row.
-    EnqLink(Item, Place),
-    /// An enqueue links its row behind the tail's row.
-    LinkSingle(Item, Place),
-    /// An enqueue moves the tail over another caller's row, and begins again.
-    EnqPass(Item, Place, u32),
-    /// An enqueue moves the tail over its own row, and is done.
-    EnqLast(Place, u32),
-    /// An enqueue met a chain, and loads the head.
-    EnqHead(Item),
-    /// A dequeue loads the head.
-    DeqHead,
-    /// A dequeue loads the link of the dummy.
-    DeqLink(Place),
-    /// A dequeue loads the tail, after a Single link to the row.
-    DeqTail(Place, u32),
-    /// A dequeue loads the tail, after a Chain link to the row.
-    DeqOver(Place, u32),
-    /// A dequeue moves a tail that names the dummy, and begins again.
-    DeqPass(Place, u32),
-    /// A dequeue loads the value of the row behind the dummy.
-    DeqValue(Place, u32),
-    /// A dequeue moves the head to that row.
-    MoveHead(Place, u32, u64),
-    /// The owner of a batch stores the value of its enqueue of this number.
-    BatchValue(Draft, u32, u64),
-    /// The owner of a batch links its row of this number to the next one.
-    BatchChain(Draft, u32),
-    /// The owner of a batch stores a field of its announcement.
-    BatchField(Draft, AnnField),
-    /// The owner of a batch loads the head.
-    BatchHead(Draft),
-    /// The owner of a batch installs its announcement.
-    Install(Draft),
-    /// A help loads OldHead.
-    HelpOldHead(Help),
-    /// A help loads the first row.
-    HelpFirst(Help),
-    /// A help loads the last row.
-    HelpLast(Help),
-    /// A help loads the counts.
-    HelpCounts(Help),
-    /// A help loads the tail.
-    HelpTail(Help),
-    /// A help loads OldTail.
-    HelpOldTail(Help, Place),
-    /// A help loads the link of the tail's row.
-    HelpLink(Help, Place),
-    /// A help links the chain behind the tail's row.
-    LinkChain(Help, Place),
-    /// A help moves the tail over one row, and begins again.
-    HelpPass(Help, Place, u32),
-    /// A help records the tail behind which the chain is linked.
-    RecordTail(Help, Place),
-    /// A help that knows OldTail loads the tail.
-    HelpOver(Help, Place),
-    /// A help moves the tail over the chain.
-    MoveTailOver(Help, Place),
-    /// A help of a batch that gets so many values loads the link of the row, with so many links to go.
-    HelpWalk(Help, u32, u32, u32),
-    /// A help of a batch that gets so many values moves the head to the row.
-    MoveHeadAnn(Help, u32, u32),
-    /// The owner of a finished batch loads OldTail.
-    AnswerTail(Help),
-    /// The owner of a batch on so many values loads the link of the row, with so many values to go.
-    AnswerLink(u64, u32, u32),
-    /// The owner of a batch on so many values loads the value of the row, with so many values to go behind it.
-    AnswerValue(u64, u32, u32),
+    /// An enqueue.
+    Enqueue(Item, EnqueuePoint),
+    /// A dequeue.
+    Dequeue(DequeuePoint),
+    /// A batch that its owner has yet to install.
+    Batch(Draft, BatchPoint),
+    /// A help.
+    Help(Help, HelpPoint),
+    /// The answers of a batch.
+    Answer(AnswerPoint),
 }
 
 /// How a command ended.

@@ -7,7 +7,9 @@ use Rattle.bq_model.specs.declared.op.Op.TheVariants.{Enq, Deq}
 use Rattle.std.proofs.lemmas.List.Sums.{sum_by-cons}
 use Rattle.excess_count.specs.Excess.{is_enqueue, enqueue_count}
 use Rattle.excess_count.specs.Got.{enqueued}
-use Rattle.core_model.specs.declared.turn.Turn.TheVariants.{Idle, BatchValue}
+use Rattle.core_model.specs.declared.turn.Turn.TheVariants.{Idle}
+use Rattle.core_model.specs.declared.turn.Turn.TheVariants as turn
+use Rattle.core_model.specs.declared.turn.BatchPoint.TheVariants as batch
 use Rattle.core_model.specs.Lane.{Lane}
 use Rattle.core_model.specs.Lawful.{Lawful}
 use Rattle.core_model.specs.State.{Caller, State}
@@ -26,7 +28,7 @@ command_is most ops is = by (ltb 0 (length ops)) (leb (length ops) most) (leb (l
   by false b c d some fits one many is = absurd (cc is)
 
 -- a batch begins with its first value
-pub many_first : (z : Lane) (c : ℕ) (k : Caller) (ops : List Op) → 1 < length ops → first_turn z c k ops ≡ BatchValue (draft_of z c k ops) 0 (get_or (enqueued ops) 0 0)
+pub many_first : (z : Lane) (c : ℕ) (k : Caller) (ops : List Op) → 1 < length ops → first_turn z c k ops ≡ turn.Batch (draft_of z c k ops) (batch.StoreValue 0 (get_or (enqueued ops) 0 0))
 many_first z c k [] more = absurd (omega arith)
 many_first z c k (op ∷ []) more = absurd (omega arith)
 many_first z c k (op ∷ next ∷ ops) more = refl

@@ -10,10 +10,10 @@ use Rattle.word_rows.specs.declared.content.Content.{Content}
 use Rattle.core_model.specs.declared.turn.Turn.{Turn}
 use Rattle.core_model.specs.Functions.{put}
 use Rattle.core_model.specs.State.{Caller, State, read, write}
+use Rattle.core_model.specs.Step.{target, stored, grown, after, step_at, next}
 use Rattle.bq_model.specs.declared.op.Op.{Op}
 use Rattle.core_model.specs.Lane.{lane_of}
 use Rattle.core_model.specs.Start.{newcomer, has_rows, started, refused, start}
-use Rattle.core_model.specs.Step.{target, stored, grown, after, step_at, next}
 use Rattle.core_model.proofs.Puts.{put_all, put_same, put_here}
 use Rattle.step_core.specs.declared.call.Call.{Call}
 use Rattle.step_core.specs.declared.words.Words.{Words}

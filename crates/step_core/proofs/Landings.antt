@@ -11,11 +11,13 @@ use Rattle.excess_count.specs.Excess.{is_dequeue}
 use Rattle.word_rows.specs.declared.batch_words.BatchCounts.{BatchCounts}
 use Rattle.std.proofs.lemmas.List.Sums.{count_by-le-length}
 use Rattle.core_model.specs.declared.turn.Turn.{Turn}
-use Rattle.core_model.specs.declared.turn.Turn.TheVariants.{Idle, AnswerValue}
+use Rattle.core_model.specs.declared.turn.Turn.TheVariants.{Idle}
+use Rattle.core_model.specs.declared.turn.Turn.TheVariants as turn
+use Rattle.core_model.specs.declared.turn.AnswerPoint.TheVariants as answer
 use Rattle.core_model.specs.Lane.{Lane}
-use Rattle.core_model.specs.State.{Caller, State, read}
-use Rattle.core_model.specs.Step.{own_group, target, grows, grown, lander, next}
-use Rattle.core_model.specs.Facts.{Each, turn_facts}
+use Rattle.core_model.specs.State.{Caller, State, read, own_group}
+use Rattle.core_model.specs.Step.{target, grows, grown, lander, next}
+use Rattle.core_model.specs.Facts.{AtTurn}
 use Rattle.core_model.specs.Lawful.{Lawful}
 use Rattle.core_model.proofs.Stays.{world}
 use Rattle.core_model.proofs.Runs.{length-run}
@@ -43,17 +45,17 @@ not_idle t runs = by (is_idle t) refl where
 module _ (z : Lane) (s : State) (L : Lawful z s) where
   -- those of a caller's ended commands stand in the history, and no others but that of a running one
   pub mine_least : (c : ℕ) → length (s.callers c).mine ≤ length (mine s.history c)
-  mine_least c = let e = ap length (L.own_groups c) ∙ length-append (s.callers c).mine _ in omega arith
+  mine_least c = let e = ap length ((L.callers c).own_groups) ∙ length-append (s.callers c).mine _ in omega arith
 
   pub mine_most : (c : ℕ) → length (mine s.history c) ≤ due (s.callers c)
   mine_most c = by (L.ghost.landed c) (is_idle (s.callers c).turn) refl refl where
     by : (l i : Bool) → L.ghost.landed c ≡ l → is_idle (s.callers c).turn ≡ i → length (mine s.history c) ≤ length (s.callers c).mine + cond (is_idle (s.callers c).turn) 0 1
-    by true true on idle = absurd (differ (sym on ∙ (known z s L c Idle (idle_is (s.callers c).turn idle)).0.0)) where
+    by true true on idle = absurd (differ (sym on ∙ (known z s L c Idle (idle_is (s.callers c).turn idle)).call.0.0)) where
       differ : true ≡ false → ⊥
       differ e = cc e
-    by true false on idle = let e : length (mine s.history c) ≡ length (s.callers c).mine + 1 = ap length (L.own_groups c) ∙ (length-append (s.callers c).mine _ ∙ ap (λ (b : Bool). length (s.callers c).mine + length (cond b (own_group c (s.callers c) ∷ []) [])) on) in
+    by true false on idle = let e : length (mine s.history c) ≡ length (s.callers c).mine + 1 = ap length ((L.callers c).own_groups) ∙ (length-append (s.callers c).mine _ ∙ ap (λ (b : Bool). length (s.callers c).mine + length (cond b (own_group c (s.callers c) ∷ []) [])) on) in
         let runs = ap one idle in omega arith
-    by false i off idle = let e : length (mine s.history c) ≡ length (s.callers c).mine + 0 = ap length (L.own_groups c) ∙ (length-append (s.callers c).mine _ ∙ ap (λ (b : Bool). length (s.callers c).mine + length (cond b (own_group c (s.callers c) ∷ []) [])) off) in omega arith
+    by false i off idle = let e : length (mine s.history c) ≡ length (s.callers c).mine + 0 = ap length ((L.callers c).own_groups) ∙ (length-append (s.callers c).mine _ ∙ ap (λ (b : Bool). length (s.callers c).mine + length (cond b (own_group c (s.callers c) ∷ []) [])) off) in omega arith
 
   all_groups : total z.callers (λ c. length (mine s.history c)) ≡ length s.history
   all_groups = total_groups z.callers s.history (recursion_from_All (λ (g : Group). g.caller < z.callers) s.history L.history.known)
@@ -149,8 +151,8 @@ module _ (z : Lane) (s : State) (L : Lawful z s) (c : ℕ) (runs : (s.callers c)
       others_mine e apart = ap (λ (h : List Group). mine h e) (grew g) ∙ mine-push_other s.history (own_group (lander z c t) (s.callers (lander z c t))) e apart
 
 -- a batch that reads a value has fewer of them than operations
-pub values_fit : (z : Lane) (s : State) → Lawful z s → (c m r l : ℕ) → (s.callers c).turn ≡ AnswerValue m r l → length (s.callers c).values < length (s.callers c).ops
-values_fit z s L c m r l is = by (known z s L c (AnswerValue m r l) is) where
-  by : Each z (world s L.ghost) c (turn_facts z c (s.callers c) (AnswerValue m r l)) → length (s.callers c).values < length (s.callers c).ops
-  by (on, ((a, i, d, R, x, m_is, sum, row, vals), _)) = let n = ap length vals ∙ length-run (λ j. s.memory.value (L.ghost.path j)) (suc R.dummy) x in
-      let counts = ap (λ (k : BatchCounts). k.deqs) R.counts in let most = count_by-le-length is_dequeue (s.callers c).ops in let total = sum in omega arith
+pub values_fit : (z : Lane) (s : State) → Lawful z s → (c m r l : ℕ) → (s.callers c).turn ≡ turn.Answer (answer.LoadValue m r l) → length (s.callers c).values < length (s.callers c).ops
+values_fit z s L c m r l is = by (known z s L c (turn.Answer (answer.LoadValue m r l)) is) where
+  by : AtTurn z (world s L.ghost) c (s.callers c) (turn.Answer (answer.LoadValue m r l)) → length (s.callers c).values < length (s.callers c).ops
+  by f = let rd = f.here.0 in let R = rd.3 in let n = ap length rd.8 ∙ length-run (λ j. s.memory.value (L.ghost.path j)) (suc R.dummy) rd.4 in
+      let counts = ap (λ (k : BatchCounts). k.deqs) R.counts in let most = count_by-le-length is_dequeue (s.callers c).ops in let total = rd.6 in omega arith

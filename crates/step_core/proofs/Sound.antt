@@ -70,7 +70,7 @@ module _ (a : Lists) (S : IsSound a) where
   may_go ks c same below runs = let f = call_at ks c below in subst (λ (o : Option Call). IfSome o MayGo) (sym f.1)
       (let is = caller_is ks c f.0 below (sym (f.2 f.0)) in let was : callers_of a.calls.items c ≡ call_of f.0 = ap (λ (ys : List Call). callers_of ys c) (sym same) ∙ is in
       let R : IsReady a.shape.batch f.0 = subst (IsReady a.shape.batch) (f.2 f.0) (subst (All (IsReady a.shape.batch)) (sym same) S.ready c f.0 below) in
-      let within = (S.lawful.allowed c).within in let most = a.shape.some_allowance.1 in record {
+      let within = (S.lawful.callers c).allowed.within in let most = a.shape.some_allowance.1 in record {
         may_end = record {
           ready = subst (λ (n : ℕ). IsReady n f.0) (sym R.answers) R;
           runs = λ idle. runs (ap (λ (k : Caller). k.turn) was ∙ idle);
@@ -116,7 +116,7 @@ module _ (a : Lists) (S : IsSound a) where
 
 -- what a caller has made is within its allowance
 pub made_within : (a : Lists) (S : IsSound a) (c : ℕ) (k : Call) → c < length a.calls.items → k ≡ slice_index_or a.calls.items c k → k.operations ≤ a.shape.allowance
-made_within a S c k below is = let within = (S.lawful.allowed c).within in let made = (subst (IsReady a.shape.batch) (sym is) (S.ready c k below)).operations in
+made_within a S c k below is = let within = (S.lawful.callers c).allowed.within in let made = (subst (IsReady a.shape.batch) (sym is) (S.ready c k below)).operations in
     let e = ap (λ (y : Caller). length (operations y.mine)) (caller_is a.calls.items c k below is) in omega arith
 
 pub spent_is : (a : Lists) (S : IsSound a) (c : ℕ) (k : Call) (allowance more : ℕ) → c < length a.calls.items → k ≡ slice_index_or a.calls.items c k → allowance ≡ a.shape.allowance

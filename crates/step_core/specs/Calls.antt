@@ -2,7 +2,9 @@
 use Rattle.std.specs.Prelude.{◌≡◌, ◌≢◌, ℕ, ◌+◌, ◌^◌, ◌<◌, ◌≤◌, length, vec_len, vec_capacity}
 use Rattle.bq_model.specs.History.{operations}
 use Rattle.excess_count.specs.Got.{enqueued}
-use Rattle.core_model.specs.declared.turn.Turn.TheVariants.{Idle, AnswerValue}
+use Rattle.core_model.specs.declared.turn.Turn.TheVariants.{Idle}
+use Rattle.core_model.specs.declared.turn.Turn.TheVariants as turn
+use Rattle.core_model.specs.declared.turn.AnswerPoint.TheVariants as answer
 use Rattle.core_model.specs.Ranges.{RowsFit}
 use Rattle.core_model.specs.State.{Caller}
 use Rattle.step_core.specs.declared.call.Call.{Call}
@@ -32,4 +34,4 @@ pub record MayGo (k : Call) : Type 0 where
   pub some : 0 < k.answers.capacity
   pub rows : RowsFit k.turn
   -- where it reads a value, there is a dequeue that gets it
-  pub reads : (m r l : ℕ) → k.turn ≡ AnswerValue m r l → length k.values.items < length k.ops
+  pub reads : (m r l : ℕ) → k.turn ≡ turn.Answer (answer.LoadValue m r l) → length k.values.items < length k.ops

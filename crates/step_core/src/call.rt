@@ -2,7 +2,6 @@
 ghost use Rattle.std.specs.Prelude.{◌≡◌, ◌≢◌, ℕ, ◌+◌, ◌++◌, ◌^◌, ◌<◌, ◌≤◌, IfOk, OnOk, [], ◌∷◌, length, slice_index, vec_len, vec_capacity, Some, None};
 ghost use Rattle.bq_model.specs.History.{operations};
 ghost use Rattle.excess_count.specs.Got.{enqueued};
-ghost use Rattle.core_model.specs.declared.turn.Turn.TheVariants.{BatchValue};
 ghost use Rattle.core_model.specs.Batches.{paired};
 ghost use Rattle.core_model.specs.Step.{after, ended, reads_on, turned};
 ghost use Rattle.core_model.specs.Start.{newcomer};
@@ -10,7 +9,7 @@ ghost use Rattle.step_core.specs.Calls.{call_of, IsReady, MayEnd, MayGo};
 
 use crate::pairing::pair;
 use bq_model::{Answer, Answers, Group, Ops, OutOfMemory};
-use core_model::{CallEnd, Course, Draft, Turn};
+use core_model::{AnswerPoint, BatchPoint, CallEnd, Course, Draft, Turn};
 use std::alloc::Global;
 use std::mem;
 use word_rows::Content;
@@ -143,11 +142,11 @@ impl Call {
     // A batch stores the value of its enqueue of this number.
     fn fill(&mut self, draft: Draft, number: u32)
         requires { MayEnd self.old }
-        ensures fills { call_of self.new ≡ turned (call_of self.old) (BatchValue draft number (slice_index (enqueued self.old.ops) number)) }
+        ensures fills { call_of self.new ≡ turned (call_of self.old) (Turn.Batch draft (BatchPoint.StoreValue number (slice_index (enqueued self.old.ops) number))) }
         ensures ready { IsReady self.old.answers.capacity self.new }
     {
         let value = self.puts.get(number as usize).copied().unwrap_or(0);
-        self.turn = Turn::BatchValue(draft, number, value);
+        self.turn = Turn::Batch(draft, BatchPoint::StoreValue(number, value));
     }
 
     // A batch on so many values begins to read those that it gets, behind the row. Where there are none, it ends.
@@ -161,7 +160,7 @@ impl Call {
             self.end(caller, now);
         } else {
             self.values.clear();
-            self.turn = Turn::AnswerLink(queued, row, left - 1);
+            self.turn = Turn::Answer(AnswerPoint::LoadLink(queued, row, left - 1));
         }
     }
 
@@ -184,7 +183,7 @@ impl Call {
             self.values.pop();
             self.end(caller, now);
         } else {
-            self.turn = Turn::AnswerLink(queued, row, left - 1);
+            self.turn = Turn::Answer(AnswerPoint::LoadLink(queued, row, left - 1));
         }
     }
 

@@ -6,7 +6,8 @@ ghost use Rattle.core_model.specs.Functions.{put};
 ghost use Rattle.core_model.specs.Kind.{kind_of};
 ghost use Rattle.core_model.specs.Lane.{lane_of};
 ghost use Rattle.core_model.specs.Start.{newcomer, opening};
-ghost use Rattle.core_model.specs.Step.{after, grows, grown, lander, next, own_group};
+ghost use Rattle.core_model.specs.State.{own_group};
+ghost use Rattle.core_model.specs.Step.{after, grows, grown, lander, next};
 ghost use Rattle.step_core.specs.Calls.{call_of, IsReady, MayGo};
 ghost use Rattle.step_core.specs.Due.{due};
 ghost use Rattle.step_core.specs.Lists.{callers_of, state_of, copy_at, all_due, MayLand, IsSound};
@@ -14,7 +15,7 @@ ghost use Rattle.step_core.specs.Lists.{callers_of, state_of, copy_at, all_due, 
 use crate::call::Call;
 use crate::words::Words;
 use bq_model::{Group, Ops, OutOfMemory, Shape};
-use core_model::{StepKind, Turn};
+use core_model::{HelpPoint, StepKind, Turn};
 use std::alloc::Global;
 use std::mem;
 use word_rows::{Content, anns, rows};
@@ -59,7 +60,7 @@ fn lander(shape: &Shape, caller: u32, turn: Turn) -> u32
     ensures { result ≡ lander (lane_of shape.now) caller turn }
 {
     match turn {
-        Turn::LinkChain(help, _) => help.ann / shape.callers(),
+        Turn::Help(help, HelpPoint::LinkChain(_)) => help.ann / shape.callers(),
         _ => caller,
     }
 }
@@ -172,9 +173,10 @@ impl Lists {
         ensures shape { self.new.shape ≡ self.old.shape }
     {
         let turn = self.turn(caller);
-        let word = turn.target();
+        let act = turn.act();
+        let word = act.location();
         let found = self.words.read(word);
-        self.words.write(word, turn.stored(found));
+        self.words.write(word, act.effect(found));
         self.grow(caller, turn, found);
         self.go(caller, found);
         turn.running_kind()

@@ -15,7 +15,7 @@ ghost use Rattle.step_core.specs.Lists.{callers_of, state_of, IsSound};
 
 use crate::lists::Lists;
 use bq_model::{Op, Ops, OutOfMemory, Shape};
-use core_model::{Draft, Item, Notice, Turn};
+use core_model::{BatchPoint, DequeuePoint, Draft, EnqueuePoint, Item, Notice, Turn};
 use excess_count::{Counts, count};
 use std::alloc::Global;
 use word_rows::{BatchCounts, BatchNumber, Place, item_row, items, order_word, own_ann};
@@ -106,11 +106,11 @@ impl Stock {
         ensures { (k : Caller) → k.taken ≡ self.taken → result ≡ first_turn (lane_of shape.now) caller k (op ∷ []) }
     {
         match op {
-            Op::Enq(value) => Turn::StoreValue(Item {
-                row: item_row(shape, caller, self.taken),
-                value,
-            }),
-            Op::Deq => Turn::DeqHead,
+            Op::Enq(value) => {
+                let row = item_row(shape, caller, self.taken);
+                Turn::Enqueue(Item { row, value }, EnqueuePoint::StoreValue)
+            }
+            Op::Deq => Turn::Dequeue(DequeuePoint::LoadHead),
         }
     }
 
@@ -150,7 +150,10 @@ impl Stock {
         if ops.len() == 1 {
             self.plain(shape, caller, ops[0])
         } else {
-            Turn::BatchValue(self.draft(shape, caller, ops, counts), 0, puts[0])
+            Turn::Batch(
+                self.draft(shape, caller, ops, counts),
+                BatchPoint::StoreValue(0, puts[0]),
+            )
         }
     }
 }
