@@ -8,14 +8,14 @@ use Rattle.word_rows.specs.declared.link_word.LinkWord.TheVariants.{Nil, Single,
 use Rattle.word_rows.specs.declared.location.Location.{Location}
 use Rattle.word_rows.specs.declared.location.Location.TheVariants.{Head, Tail, Link, Value, Mark, NodeHazard, AnnHazard, AnnWord}
 use Rattle.word_rows.specs.declared.content.Content.TheVariants.{OfHead, OfTail, OfLink}
-use Rattle.core_model.specs.Lane.{Lane}
+use Rattle.core_model.specs.LaneSizes.{LaneSizes}
 use Rattle.core_model.specs.State.{State, read}
 use Rattle.core_model.specs.Ranges.{NamesRows}
 use Rattle.core_model.specs.Lawful.{LinksIn, Lawful}
-use Rattle.core_model.proofs.Loads.{node_found}
+use Rattle.core_model.proofs.Lookups.{node_found}
 use Rattle.core_model.proofs.Ends.{tail_fits, head_fits}
 
-module _ (z : Lane) (s : State) (L : Lawful z s) (fits : z.first + z.callers * z.allowance < 2 ^ 44) where
+module _ (z : LaneSizes) (s : State) (L : Lawful z s) (fits : z.first + z.callers * z.allowance < 2 ^ 44) where
   head_found : (x : HeadWord) → s.memory.head ≡ x → NamesRows z.rows Head (OfHead x)
   head_found (Node p) is = (subst (λ (r : ℕ). r < z.rows) (sym (ap (λ (q : Place). q.row) (node_found z s L 0 p is).1)) (L.list.rows.inside L.ghost.head (omega arith)), head_fits z s L fits p is)
   head_found (Ann a n) is = tt

@@ -9,7 +9,7 @@ use Rattle.word_rows.specs.declared.link_word.LinkWord.TheVariants.{Nil, Single,
 use Rattle.word_rows.specs.declared.content.Content.{Content}
 use Rattle.word_rows.specs.declared.content.Content.TheVariants.{OfHead, OfTail, OfLink, OfOldTail}
 use Rattle.core_model.specs.Act.{same_place, same_head, same_link, same_old_tail, same_content}
-use Rattle.core_model.proofs.Keeps.{same_places}
+use Rattle.core_model.proofs.Preserves.{same_places}
 
 heads : (x y : HeadWord) → same_head x y ≡ true → x ≡ y
 heads (Node p) (Node q) e = ap Node (same_places p q e)

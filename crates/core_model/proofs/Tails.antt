@@ -1,29 +1,22 @@
 -- The tail moves by one over a Single link.
-use Rattle.std.proofs.Common.{◌≡◌, inr, ⊎_elim, ◌*◌, ℕ, suc, ◌+◌, ◌≤◌, Bool, true, false, cond, List, [], ◌∷◌, length, sym, refl, ap, ◌∙◌, subst, arith, le_refl}
+use Rattle.std.proofs.Common.{◌≡◌, inr, ⊎_elim, ◌*◌, ℕ, suc, ◌+◌, ◌≤◌, Bool, true, false, cond, [], sym, refl, ap, ◌∙◌, arith, le_refl}
 use Rattle.std.proofs.lemmas.List.{append-nil}
-use Rattle.bq_model.specs.declared.op.Answer.TheVariants.{Done}
-use Rattle.bq_model.specs.declared.group.Group.{Group}
 use Rattle.word_rows.specs.declared.place.Place.{Place}
 use Rattle.word_rows.specs.declared.location.Location.TheVariants.{Tail}
 use Rattle.word_rows.specs.declared.content.Content.TheVariants.{OfTail}
-use Rattle.core_model.specs.declared.turn.Item.{Item}
-use Rattle.core_model.specs.declared.turn.DequeuePoint.TheVariants as deq
-use Rattle.core_model.specs.declared.turn.Turn.TheVariants as turn
-use Rattle.core_model.specs.declared.turn.EnqueuePoint.TheVariants as enq
 use Rattle.core_model.specs.Functions.{put}
-use Rattle.core_model.specs.Lane.{Lane}
+use Rattle.core_model.specs.LaneSizes.{LaneSizes}
 use Rattle.core_model.specs.State.{Memory, Caller, State, write}
 use Rattle.core_model.specs.Act.{same_place, behind}
 use Rattle.core_model.specs.Fact.{next_is, by_single}
-use Rattle.core_model.specs.Step.{turned, ended, step_at}
 use Rattle.core_model.specs.Facts.{Holds}
 use Rattle.core_model.specs.Ghost.{decided, Ghost, World}
 use Rattle.core_model.specs.Lawful.{Lawful}
-use Rattle.core_model.proofs.Stays.{world, anns_same, Grows}
-use Rattle.core_model.proofs.Keeps.{caller_stays, known, turns, finishes, changed, same_places, drafts_same}
+use Rattle.core_model.proofs.Stable.{world, anns_same, Rely}
+use Rattle.core_model.proofs.Preserves.{caller_stable, changed, same_places, drafts_same}
 use Rattle.core_model.proofs.Announces.{stages_moved}
 
-module _ (z : Lane) (s : State) (L : Lawful z s) (c : ℕ) where
+module _ (z : LaneSizes) (s : State) (L : Lawful z s) (c : ℕ) where
   abbrev G : Ghost
   G = L.ghost
 
@@ -47,14 +40,14 @@ module _ (z : Lane) (s : State) (L : Lawful z s) (c : ℕ) where
       counts = L.list.counts;
       links = L.list.links;
     };
-    announced = stages_moved z.first (z.callers * z.callers) G.stage G.ann s.memory.said s.memory.old_tail G.path G.path G.chained G.chained G.cause G.head G.head (G.head + G.rest) (G.head + G.rest) G.shown G.shown G.tail (suc G.tail)
+    announced = stages_moved z.first (z.callers * z.callers) G.stage G.ann s.memory.notice s.memory.old_tail G.path G.path G.chained G.chained G.cause G.head G.head (G.head + G.rest) (G.head + G.rest) G.shown G.shown G.tail (suc G.tail)
         (le_refl _) (omega arith) (λ _ _. refl) (λ _ _. refl) (omega arith) (λ _ _. (refl, refl))
-        (λ a i e f. ⊎_elim (λ (here : G.tail ≡ i). absurd (not_here a i f here)) (λ (past : i + (s.memory.said a).counts.enqs ≤ G.tail). inr (omega arith)) (L.announced.standing a i e f).tails)
+        (λ a i e f. ⊎_elim (λ (here : G.tail ≡ i). absurd (not_here a i f here)) (λ (past : i + (s.memory.notice a).counts.enqs ≤ G.tail). inr (omega arith)) (L.announced.standing a i e f).tails)
         (λ a i f none. let reached = (L.announced.bound a i f).reached in let before = (L.announced.unrecorded a i f none).1 in absurd (not_here a i f (omega arith)))
         (λ below _. let inside = (next.2 G.tail count).0 in let last = L.list.tail.lags (omega arith) (single G.tail count).1 in absurd (omega arith)) L.announced;
     told = L.told;
     pending = L.pending;
-    callers = λ d. caller_stays z (λ _. ⊥) (world s G) W grows d (s.callers d) (λ _ _ x. x) (record { landed = refl; made = refl; drafts = drafts_same z (world s G) W refl refl refl d; unmade = (L.callers d).unmade }) (L.callers d);
+    callers = λ d. caller_stable z (λ _. ⊥) (world s G) W rely d (s.callers d) (λ _ _ x. x) (record { linearized = refl; made = refl; drafts = drafts_same z (world s G) W refl refl refl d; unmade = (L.callers d).unmade }) (L.callers d);
   } where
     count : p.count ≡ z.first + G.tail
     count = ap (λ (q : Place). q.count) (sym is ∙ L.list.tail.named)
@@ -71,8 +64,8 @@ module _ (z : Lane) (s : State) (L : Lawful z s) (c : ℕ) where
     W : World
     W = record { memory = record s.memory { tail = behind p n }; history = s.history; ghost = G' }
 
-    grows : Grows z (λ _. ⊥) (world s G) W
-    grows = record {
+    rely : Rely z (λ _. ⊥) (world s G) W
+    rely = record {
       longer = le_refl _;
       heads = le_refl _;
       tails = omega arith;
@@ -94,22 +87,6 @@ module _ (z : Lane) (s : State) (L : Lawful z s) (c : ℕ) where
   pub exchanges : (p : Place) (n : ℕ) (k : Caller) → Holds z (world s L.ghost) c (next_is p n) → Holds z (world s L.ghost) c (by_single p)
       → ((memory : Memory) → Lawful z (with_memory memory) → Lawful z record { memory = memory; history = s.history; callers = put s.callers c k })
       → (b : Bool) → same_place s.memory.tail p ≡ b
-      → Lawful z (changed s c (write s.memory Tail (cond b (OfTail (behind p n)) (OfTail s.memory.tail))) [] k)
-  exchanges p n k next single goes true is = subst (λ (h : List Group). Lawful z record { memory = record s.memory { tail = behind p n }; history = h; callers = put s.callers c k }) (sym (append-nil s.history))
-      (goes (record s.memory { tail = behind p n }) (advances p n next single (same_places s.memory.tail p is)))
-  exchanges p n k next single goes false is = subst (λ (h : List Group). Lawful z record { memory = s.memory; history = h; callers = put s.callers c k }) (sym (append-nil s.history)) (goes s.memory L)
-
-  pub keeps_enq_pass : (x : Item) (p : Place) (n : ℕ) → (s.callers c).turn ≡ turn.Enqueue x (enq.PassTail p n) → Lawful z (step_at z s c (turn.Enqueue x (enq.PassTail p n)))
-  keeps_enq_pass x p n is = let f = known z s L c (turn.Enqueue x (enq.PassTail p n)) is in exchanges p n (turned (s.callers c) (turn.Enqueue x enq.LoadTail)) f.here.0 f.here.1.0
-      (λ memory l. let h = known z (with_memory memory) l c (turn.Enqueue x (enq.PassTail p n)) is in turns z (with_memory memory) l c (turn.Enqueue x enq.LoadTail) (record { call = h.call; here = tt })) (same_place s.memory.tail p) refl
-
-  pub keeps_deq_pass : (p : Place) (n : ℕ) → (s.callers c).turn ≡ turn.Dequeue (deq.PassTail p n) → Lawful z (step_at z s c (turn.Dequeue (deq.PassTail p n)))
-  keeps_deq_pass p n is = let f = known z s L c (turn.Dequeue (deq.PassTail p n)) is in exchanges p n (turned (s.callers c) (turn.Dequeue deq.LoadHead)) f.here.0 f.here.1.0
-      (λ memory l. let h = known z (with_memory memory) l c (turn.Dequeue (deq.PassTail p n)) is in turns z (with_memory memory) l c (turn.Dequeue deq.LoadHead) (record { call = h.call; here = tt })) (same_place s.memory.tail p) refl
-
-  -- the enqueue is done, as the history was
-  pub keeps_enq_last : (x : Item) (p : Place) (n : ℕ) → (s.callers c).turn ≡ turn.Enqueue x (enq.MoveTail p n) → Lawful z (step_at z s c (turn.Enqueue x (enq.MoveTail p n)))
-  keeps_enq_last x p n is = let f = known z s L c (turn.Enqueue x (enq.MoveTail p n)) is in subst (λ (m : ℕ). Lawful z (changed s c (write s.memory Tail (cond (same_place s.memory.tail p) (OfTail (behind p n)) (OfTail s.memory.tail))) [] (ended m c (s.callers c) (Done ∷ []))))
-      (ap length (sym (append-nil s.history)))
-      (exchanges p n (ended (length s.history) c (s.callers c) (Done ∷ [])) f.here.0 f.here.1.0
-      (λ memory l. let h = known z (with_memory memory) l c (turn.Enqueue x (enq.MoveTail p n)) is in let a = h.call.1.0 in finishes z (with_memory memory) l c (Done ∷ []) h.call.0.0 h.call.0.1 a.0 a.1) (same_place s.memory.tail p) refl)
+      → Lawful z (changed s c (write s.memory Tail (cond b (OfTail (behind p n)) (OfTail s.memory.tail))) s.history k)
+  exchanges p n k next single goes true is = goes (record s.memory { tail = behind p n }) (advances p n next single (same_places s.memory.tail p is))
+  exchanges p n k next single goes false is = goes s.memory L

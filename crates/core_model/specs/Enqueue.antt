@@ -16,16 +16,16 @@ use Rattle.core_model.specs.declared.course.Course.{Course}
 use Rattle.core_model.specs.declared.course.Course.TheVariants.{GoesOn, Ends}
 use Rattle.core_model.specs.declared.kind.StepKind.{StepKind}
 use Rattle.core_model.specs.declared.kind.StepKind.TheVariants as kind
-use Rattle.core_model.specs.declared.turn.Item.{Item}
-use Rattle.core_model.specs.declared.turn.Back.TheVariants as back
-use Rattle.core_model.specs.declared.turn.HelpPoint.TheVariants as help
-use Rattle.core_model.specs.declared.turn.EnqueuePoint.{EnqueuePoint}
-use Rattle.core_model.specs.declared.turn.EnqueuePoint.TheVariants.{StoreValue, LoadTail, LoadLink, LinkSingle, PassTail, MoveTail, LoadHead}
-use Rattle.core_model.specs.declared.turn.Turn.{Turn}
-use Rattle.core_model.specs.declared.turn.Turn.TheVariants as turn
+use Rattle.core_model.specs.declared.point.Item.{Item}
+use Rattle.core_model.specs.declared.point.Back.TheVariants as back
+use Rattle.core_model.specs.declared.point.HelpPoint.TheVariants as help
+use Rattle.core_model.specs.declared.point.EnqueuePoint.{EnqueuePoint}
+use Rattle.core_model.specs.declared.point.EnqueuePoint.TheVariants.{StoreValue, LoadTail, LoadLink, LinkSingle, PassTail, MoveTail, LoadHead}
+use Rattle.core_model.specs.declared.point.Point.{Point}
+use Rattle.core_model.specs.declared.point.Point.TheVariants as point
 use Rattle.core_model.specs.State.{Caller, head_in, tail_in, link_in, own_group}
 use Rattle.core_model.specs.Act.{is_nil, by_one}
-use Rattle.core_model.specs.Fact.{Fact, owns, holds_item, linked, tail_seen, next_is, by_single, landed_is, is_op, answered}
+use Rattle.core_model.specs.Fact.{Fact, owns, holds_item, linked, tail_seen, next_is, by_single, linearized_is, is_op, answered}
 use Rattle.core_model.specs.Help.{help_of}
 
 abbrev pub act : Item → EnqueuePoint → Act
@@ -43,16 +43,16 @@ after_link p (Single n) = PassTail p n
 after_link p (Chain n) = LoadHead
 after_link p Shut = LoadTail
 
-abbrev pub after_head : Item → HeadWord → Turn
-after_head x (Node p) = turn.Enqueue x LoadTail
-after_head x (Ann a n) = turn.Help (help_of a (back.Enqueue x)) help.LoadOldHead
+abbrev pub after_head : Item → HeadWord → Point
+after_head x (Node p) = point.Enqueue x LoadTail
+after_head x (Ann a n) = point.Help (help_of a (back.Enqueue x)) help.LoadOldHead
 
 abbrev pub course : Item → EnqueuePoint → Content → Course
-course x StoreValue found = GoesOn (turn.Enqueue x LoadTail)
-course x LoadTail found = GoesOn (turn.Enqueue x (LoadLink (tail_in found)))
-course x (LoadLink p) found = GoesOn (turn.Enqueue x (after_link p (link_in found)))
-course x (LinkSingle p) found = GoesOn (turn.Enqueue x (cond (is_nil (link_in found)) (MoveTail p x.row) LoadTail))
-course x (PassTail p n) found = GoesOn (turn.Enqueue x LoadTail)
+course x StoreValue found = GoesOn (point.Enqueue x LoadTail)
+course x LoadTail found = GoesOn (point.Enqueue x (LoadLink (tail_in found)))
+course x (LoadLink p) found = GoesOn (point.Enqueue x (after_link p (link_in found)))
+course x (LinkSingle p) found = GoesOn (point.Enqueue x (cond (is_nil (link_in found)) (MoveTail p x.row) LoadTail))
+course x (PassTail p n) found = GoesOn (point.Enqueue x LoadTail)
 course x (MoveTail p n) found = Ends Done
 course x LoadHead found = GoesOn (after_head x (head_in found))
 
@@ -77,7 +77,7 @@ command_knows c k x (MoveTail p n) = answered k.started_at (own_group c k) (Done
 command_knows c k x _ = is_op k.ops (Enq x.value) ∷ owns k.taken x.row ∷ holds_item x ∷ []
 
 abbrev pub call_knows : ℕ → Caller → Item → EnqueuePoint → List Fact
-call_knows c k x p = landed_is (is_linked p) ∷ command_knows c k x p
+call_knows c k x p = linearized_is (is_linked p) ∷ command_knows c k x p
 
 abbrev pub knows : EnqueuePoint → List Fact
 knows (LoadLink p) = linked p ∷ tail_seen p ∷ []

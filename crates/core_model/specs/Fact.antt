@@ -5,10 +5,10 @@ use Rattle.bq_model.specs.declared.op.Answer.{Answer}
 use Rattle.bq_model.specs.declared.group.Group.{Group}
 use Rattle.word_rows.specs.declared.place.Place.{Place}
 use Rattle.word_rows.specs.declared.location.AnnField.{AnnField}
-use Rattle.core_model.specs.declared.turn.Item.{Item}
-use Rattle.core_model.specs.declared.turn.Notice.{Notice}
-use Rattle.core_model.specs.declared.turn.Draft.{Draft}
-use Rattle.core_model.specs.declared.turn.Help.{Help}
+use Rattle.core_model.specs.declared.point.Item.{Item}
+use Rattle.core_model.specs.declared.point.Notice.{Notice}
+use Rattle.core_model.specs.declared.point.Draft.{Draft}
+use Rattle.core_model.specs.declared.point.Help.{Help}
 use Rattle.core_model.specs.State.{Caller, Command}
 
 pub data Fact : Type 0 where
@@ -31,7 +31,7 @@ pub data Fact : Type 0 where
   -- while HEAD names this place, the row behind it has this value
   next_value : Place → ℕ → Fact
   -- the running command stands in the history, or not, and no announcement of the caller stands in HEAD
-  landed_is : Bool → Fact
+  linearized_is : Bool → Fact
   -- the caller runs this one operation
   is_op : List Op → Op → Fact
   -- the group stands in the history, behind n groups or more, and these are its answers
@@ -46,9 +46,10 @@ pub data Fact : Type 0 where
   drafts : Command → Draft → Fact
   -- the rows that the draft names are the caller's and unlinked, with the first i values and the first j links stored
   fills : ℕ → Notice → List Op → ℕ → ℕ → Fact
-  -- the enqueue of this number is there, and has this value; the row of this number isn't the last one
-  enqueues : List Op → Notice → ℕ → ℕ → Fact
-  goes_on : Notice → ℕ → Fact
+  -- the enqueue of this number is there, and has this row and this value
+  enqueues : List Op → Notice → ℕ → ℕ → ℕ → Fact
+  -- the row of this number is r, and another comes behind it, which is n
+  goes_on : Notice → ℕ → ℕ → ℕ → Fact
   -- the announcement isn't installed, and its fields that are stored before this one are those of the draft
   written : Draft → AnnField → Fact
   head_written : Draft → Fact
@@ -67,7 +68,7 @@ pub data Fact : Type 0 where
   gets_so_many : Help → ℕ → Fact
   walks : ℕ → ℕ → ℕ → Fact
   -- the own announcement is installed, and where it is decided, the group stands in the history behind n groups or more
-  lands : ℕ → ℕ → Group → Fact
+  takes_effect : ℕ → ℕ → Group → Fact
   -- Of the running batch, on m values, these values are read. The row r is the last one read, with l to come; or it is
   -- the next one, with l behind it.
   has_read : ℕ → Group → ℕ → List ℕ → ℕ → ℕ → Fact
@@ -75,4 +76,4 @@ pub data Fact : Type 0 where
 
 -- what the owner of a batch knows that isn't installed, with its rows filled and the fields before f written
 abbrev pub batch_facts : Command → Draft → AnnField → List Fact
-batch_facts m d f = landed_is false ∷ drafts m d ∷ fills m.taken d.notice m.ops d.notice.counts.enqs (d.notice.counts.enqs - 1) ∷ written d f ∷ []
+batch_facts m d f = linearized_is false ∷ drafts m d ∷ fills m.taken d.notice m.ops d.notice.counts.enqs (d.notice.counts.enqs - 1) ∷ written d f ∷ []

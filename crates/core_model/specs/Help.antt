@@ -15,22 +15,22 @@ use Rattle.core_model.specs.declared.course.Course.{Course}
 use Rattle.core_model.specs.declared.course.Course.TheVariants.{GoesOn}
 use Rattle.core_model.specs.declared.kind.StepKind.{StepKind}
 use Rattle.core_model.specs.declared.kind.StepKind.TheVariants as kind
-use Rattle.core_model.specs.declared.turn.Back.{Back}
-use Rattle.core_model.specs.declared.turn.Back.TheVariants as back
-use Rattle.core_model.specs.declared.turn.Help.{Help}
-use Rattle.core_model.specs.declared.turn.HelpPoint.{HelpPoint}
-use Rattle.core_model.specs.declared.turn.HelpPoint.TheVariants.{LoadOldHead, LoadFirst, LoadLast, LoadCounts, LoadTail, LoadOldTail, LoadLink, LinkChain, PassTail, RecordTail, LoadTailOver, MoveTailOver, LoadWalk, MoveHead}
-use Rattle.core_model.specs.declared.turn.EnqueuePoint.TheVariants as enq
-use Rattle.core_model.specs.declared.turn.DequeuePoint.TheVariants as deq
-use Rattle.core_model.specs.declared.turn.BatchPoint.TheVariants as batch
-use Rattle.core_model.specs.declared.turn.AnswerPoint.TheVariants as answer
-use Rattle.core_model.specs.declared.turn.Turn.{Turn}
-use Rattle.core_model.specs.declared.turn.Turn.TheVariants as turn
+use Rattle.core_model.specs.declared.point.Back.{Back}
+use Rattle.core_model.specs.declared.point.Back.TheVariants as back
+use Rattle.core_model.specs.declared.point.Help.{Help}
+use Rattle.core_model.specs.declared.point.HelpPoint.{HelpPoint}
+use Rattle.core_model.specs.declared.point.HelpPoint.TheVariants.{LoadOldHead, LoadFirst, LoadLast, LoadCounts, LoadTail, LoadOldTail, LoadLink, LinkChain, PassTail, RecordTail, LoadTailOver, MoveTailOver, LoadWalk, MoveHead}
+use Rattle.core_model.specs.declared.point.EnqueuePoint.TheVariants as enq
+use Rattle.core_model.specs.declared.point.DequeuePoint.TheVariants as deq
+use Rattle.core_model.specs.declared.point.BatchPoint.TheVariants as batch
+use Rattle.core_model.specs.declared.point.AnswerPoint.TheVariants as answer
+use Rattle.core_model.specs.declared.point.Point.{Point}
+use Rattle.core_model.specs.declared.point.Point.TheVariants as point
 use Rattle.core_model.specs.Notices.{place, batch_counts, dummy_in, chain_end_in, counts_in}
 use Rattle.core_model.specs.Batches.{gets}
 use Rattle.core_model.specs.State.{Command, tail_in, link_in, old_tail_in}
 use Rattle.core_model.specs.Act.{same_place, far_behind, by_one}
-use Rattle.core_model.specs.Fact.{Fact, owns, holds_item, linked, tail_seen, next_is, by_single, landed_is, is_op, reads, stands_at, before_end, is_old_tail, old_tail_is, tail_over, gets_so_many, walks, lands, batch_facts}
+use Rattle.core_model.specs.Fact.{Fact, owns, holds_item, linked, tail_seen, next_is, by_single, linearized_is, is_op, reads, stands_at, before_end, is_old_tail, old_tail_is, tail_over, gets_so_many, walks, takes_effect, batch_facts}
 
 -- the help of an announcement of which nothing is read yet
 abbrev pub help_of : ℕ → Back → Help
@@ -85,33 +85,33 @@ abbrev pub walk : Help → Place → HelpPoint
 walk h q = walk_from h q (before_it h q) (gets h.counts (before_it h q))
 
 -- after the help
-abbrev pub back_turn : Help → Back → Turn
-back_turn h back.Own = turn.Answer (answer.LoadOldTail h)
-back_turn h (back.Enqueue i) = turn.Enqueue i enq.LoadTail
-back_turn h back.Dequeue = turn.Dequeue deq.LoadHead
-back_turn h (back.Batch d) = turn.Batch d batch.LoadHead
+abbrev pub back_point : Help → Back → Point
+back_point h back.Own = point.Answer (answer.LoadOldTail h)
+back_point h (back.Enqueue i) = point.Enqueue i enq.LoadTail
+back_point h back.Dequeue = point.Dequeue deq.LoadHead
+back_point h (back.Batch d) = point.Batch d batch.LoadHead
 
-abbrev pub after_walk : Help → ℕ → ℕ → LinkWord → Turn
-after_walk h n l Nil = back_turn h h.back
-after_walk h n l (Single r) = turn.Help h (walk_on n r l)
-after_walk h n l (Chain r) = turn.Help h (walk_on n r l)
-after_walk h n l Shut = back_turn h h.back
+abbrev pub after_walk : Help → ℕ → ℕ → LinkWord → Point
+after_walk h n l Nil = back_point h h.back
+after_walk h n l (Single r) = point.Help h (walk_on n r l)
+after_walk h n l (Chain r) = point.Help h (walk_on n r l)
+after_walk h n l Shut = back_point h h.back
 
 abbrev pub course : Help → HelpPoint → Content → Course
-course h LoadOldHead x = GoesOn (turn.Help (record h { old_head = dummy_in x }) LoadFirst)
-course h LoadFirst x = GoesOn (turn.Help (record h { first = chain_end_in x }) LoadLast)
-course h LoadLast x = GoesOn (turn.Help (record h { last = chain_end_in x }) LoadCounts)
-course h LoadCounts x = GoesOn (turn.Help (record h { counts = counts_in x }) LoadTail)
-course h LoadTail x = GoesOn (turn.Help h (LoadOldTail (tail_in x)))
-course h (LoadOldTail p) x = GoesOn (turn.Help h (after_old_tail p (old_tail_in x)))
-course h (LoadLink p) x = GoesOn (turn.Help h (after_link h p (link_in x)))
-course h (LinkChain p) x = GoesOn (turn.Help h LoadTail)
-course h (PassTail p r) x = GoesOn (turn.Help h LoadTail)
-course h (RecordTail p) x = GoesOn (turn.Help h (after_record p (old_tail_in x)))
-course h (LoadTailOver q) x = GoesOn (turn.Help h (cond (same_place (tail_in x) q) (MoveTailOver q) (walk h q)))
-course h (MoveTailOver q) x = GoesOn (turn.Help h (walk h q))
+course h LoadOldHead x = GoesOn (point.Help (record h { old_head = dummy_in x }) LoadFirst)
+course h LoadFirst x = GoesOn (point.Help (record h { first = chain_end_in x }) LoadLast)
+course h LoadLast x = GoesOn (point.Help (record h { last = chain_end_in x }) LoadCounts)
+course h LoadCounts x = GoesOn (point.Help (record h { counts = counts_in x }) LoadTail)
+course h LoadTail x = GoesOn (point.Help h (LoadOldTail (tail_in x)))
+course h (LoadOldTail p) x = GoesOn (point.Help h (after_old_tail p (old_tail_in x)))
+course h (LoadLink p) x = GoesOn (point.Help h (after_link h p (link_in x)))
+course h (LinkChain p) x = GoesOn (point.Help h LoadTail)
+course h (PassTail p r) x = GoesOn (point.Help h LoadTail)
+course h (RecordTail p) x = GoesOn (point.Help h (after_record p (old_tail_in x)))
+course h (LoadTailOver q) x = GoesOn (point.Help h (cond (same_place (tail_in x) q) (MoveTailOver q) (walk h q)))
+course h (MoveTailOver q) x = GoesOn (point.Help h (walk h q))
 course h (LoadWalk m r l) x = GoesOn (after_walk h m l (link_in x))
-course h (MoveHead m r) x = GoesOn (back_turn h h.back)
+course h (MoveHead m r) x = GoesOn (back_point h h.back)
 
 abbrev pub kind_of : HelpPoint → StepKind
 kind_of LoadOldHead = kind.LoadAnn
@@ -131,9 +131,9 @@ kind_of (MoveHead m r) = kind.MoveHeadAnn
 
 -- What a helping caller knows of its own command. Of an own announcement it knows only what no helper's step changes.
 abbrev pub back_facts : ℕ → Command → ℕ → Back → List Fact
-back_facts c m a back.Own = lands a m.started_at (record { caller = c; batch = length m.mine; ops = m.ops }) ∷ []
-back_facts c m a (back.Enqueue x) = landed_is false ∷ is_op m.ops (Enq x.value) ∷ owns m.taken x.row ∷ holds_item x ∷ []
-back_facts c m a back.Dequeue = landed_is false ∷ is_op m.ops Deq ∷ []
+back_facts c m a back.Own = takes_effect a m.started_at (record { caller = c; batch = length m.mine; ops = m.ops }) ∷ []
+back_facts c m a (back.Enqueue x) = linearized_is false ∷ is_op m.ops (Enq x.value) ∷ owns m.taken x.row ∷ holds_item x ∷ []
+back_facts c m a back.Dequeue = linearized_is false ∷ is_op m.ops Deq ∷ []
 back_facts c m a (back.Batch d) = batch_facts m d field.OldHead
 
 -- how many fields it has loaded

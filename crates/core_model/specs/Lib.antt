@@ -1,6 +1,6 @@
 -- The pure machine of a lane.
 pub mod Functions
-pub mod Lane
+pub mod LaneSizes
 pub mod Notices
 pub mod Batches
 pub mod State
@@ -20,6 +20,8 @@ pub mod Kept
 pub mod Once
 pub mod Ended
 pub mod Alone
+pub mod Noted
+pub mod Fits
 pub mod Facts
 pub mod Lawful
 pub mod Shown

@@ -7,7 +7,7 @@ use crate::course::Course;
 use crate::found::{link_in, old_tail_in, value_in};
 use crate::help::gets;
 use crate::kind::StepKind;
-use crate::turn::{AnswerPoint, Help, Turn};
+use crate::point::{AnswerPoint, Help, Point};
 use word_rows::{AnnField, Content, LinkWord, Location, Place};
 
 // It found this in OldTail.
@@ -15,10 +15,14 @@ fn after_old_tail(help: Help, old_tail: Option<Place>) -> Course
     ensures { result ≡ after_old_tail help old_tail }
 {
     match old_tail {
-        None => Course::GoesOn(Turn::Answer(AnswerPoint::LoadOldTail(help))),
+        None => Course::GoesOn(Point::Answer(AnswerPoint::LoadOldTail(help))),
         Some(known) => {
             let queued = known.count.saturating_sub(help.old_head.count);
-            Course::Reads(queued, help.old_head.row, gets(help.counts, queued))
+            Course::Reads {
+                queued,
+                row: help.old_head.row,
+                left: gets(help.counts, queued),
+            }
         }
     }
 }
@@ -28,10 +32,18 @@ fn after_link(queued: u64, row: u32, left: u32, link: LinkWord) -> AnswerPoint
     ensures { result ≡ after_link queued row left link }
 {
     match link {
-        LinkWord::Single(next) => AnswerPoint::LoadValue(queued, next, left),
-        LinkWord::Chain(next) => AnswerPoint::LoadValue(queued, next, left),
-        LinkWord::Nil => AnswerPoint::LoadLink(queued, row, left),
-        LinkWord::Shut => AnswerPoint::LoadLink(queued, row, left),
+        LinkWord::Single(next) => AnswerPoint::LoadValue {
+            queued,
+            row: next,
+            left,
+        },
+        LinkWord::Chain(next) => AnswerPoint::LoadValue {
+            queued,
+            row: next,
+            left,
+        },
+        LinkWord::Nil => AnswerPoint::LoadLink { queued, row, left },
+        LinkWord::Shut => AnswerPoint::LoadLink { queued, row, left },
     }
 }
 
@@ -45,8 +57,8 @@ impl AnswerPoint {
                 ann: help.ann,
                 field: AnnField::OldTail,
             },
-            AnswerPoint::LoadLink(_, row, _) => Location::Link { row },
-            AnswerPoint::LoadValue(_, row, _) => Location::Value { row },
+            AnswerPoint::LoadLink { row, .. } => Location::Link { row },
+            AnswerPoint::LoadValue { row, .. } => Location::Value { row },
         })
     }
 
@@ -56,15 +68,18 @@ impl AnswerPoint {
     {
         match self {
             AnswerPoint::LoadOldTail(help) => after_old_tail(help, old_tail_in(found)),
-            AnswerPoint::LoadLink(queued, row, left) => Course::GoesOn(Turn::Answer(after_link(
+            AnswerPoint::LoadLink { queued, row, left } => Course::GoesOn(Point::Answer(after_link(
                 queued,
                 row,
                 left,
                 link_in(found),
             ))),
-            AnswerPoint::LoadValue(queued, row, left) => {
-                Course::ReadsMore(queued, row, left, value_in(found))
-            }
+            AnswerPoint::LoadValue { queued, row, left } => Course::ReadsMore {
+                queued,
+                row,
+                left,
+                value: value_in(found),
+            },
         }
     }
 
@@ -74,8 +89,8 @@ impl AnswerPoint {
     {
         match self {
             AnswerPoint::LoadOldTail(_) => StepKind::LoadAnn,
-            AnswerPoint::LoadLink(..) => StepKind::LoadLink,
-            AnswerPoint::LoadValue(..) => StepKind::LoadValue,
+            AnswerPoint::LoadLink { .. } => StepKind::LoadLink,
+            AnswerPoint::LoadValue { .. } => StepKind::LoadValue,
         }
     }
 }

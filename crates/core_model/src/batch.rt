@@ -9,36 +9,48 @@ use crate::course::Course;
 use crate::found::{head_in, is_node};
 use crate::help::help_of;
 use crate::kind::StepKind;
-use crate::turn::{Back, BatchPoint, Draft, HelpPoint, Notice, Turn};
+use crate::point::{Back, BatchPoint, Draft, HelpPoint, Notice, Point};
 use word_rows::{AnnField, Content, HeadWord, LinkWord, Location};
 
-// It has filled its row of this number.
-fn after_value(draft: Draft, number: u32) -> Course
-    requires { RowsFit (Turn.Batch draft (BatchPoint.StoreValue number 0)) }
-    ensures { result ≡ after_value draft number }
+// It has filled this row, that of this number.
+fn after_value(draft: Draft, number: u32, row: u32) -> Course
+    requires { RowsFit (Point.Batch draft (BatchPoint.StoreValue number row 0)) }
+    ensures { result ≡ after_value draft number row }
 {
     let enqs = draft.notice.counts.enqs;
     if number + 1 == enqs {
         let point = if enqs == 1 {
             BatchPoint::StoreField(AnnField::OldTail)
         } else {
-            BatchPoint::StoreChain(0)
+            BatchPoint::StoreChain {
+                number: 0,
+                row: draft.notice.first,
+                next: draft.notice.first + 1,
+            }
         };
-        Course::GoesOn(Turn::Batch(draft, point))
+        Course::GoesOn(Point::Batch(draft, point))
     } else {
-        Course::Fills(draft, number + 1)
+        Course::Fills {
+            draft,
+            number: number + 1,
+            row: row + 1,
+        }
     }
 }
 
-// It has linked the row of this number to the next one.
-fn after_chain(draft: Draft, number: u32) -> BatchPoint
-    requires { RowsFit (Turn.Batch draft (BatchPoint.StoreChain number)) }
-    ensures { result ≡ after_chain draft number }
+// It has linked the row of this number to the next one, which is this.
+fn after_chain(draft: Draft, number: u32, next: u32) -> BatchPoint
+    requires { RowsFit (Point.Batch draft (BatchPoint.StoreChain number 0 next)) }
+    ensures { result ≡ after_chain draft number next }
 {
     if number + 2 == draft.notice.counts.enqs {
         BatchPoint::StoreField(AnnField::OldTail)
     } else {
-        BatchPoint::StoreChain(number + 1)
+        BatchPoint::StoreChain {
+            number: number + 1,
+            row: next,
+            next: next + 1,
+        }
     }
 }
 
@@ -61,7 +73,7 @@ fn after_field(field: AnnField) -> BatchPoint
 }
 
 // It found this in HEAD.
-fn after_head(draft: Draft, head: HeadWord) -> Turn
+fn after_head(draft: Draft, head: HeadWord) -> Point
     ensures { result ≡ after_head draft head }
 {
     match head {
@@ -71,13 +83,13 @@ fn after_head(draft: Draft, head: HeadWord) -> Turn
                 ..draft.notice
             };
             let ann = draft.ann;
-            Turn::Batch(
+            Point::Batch(
                 Draft { ann, notice },
                 BatchPoint::StoreField(AnnField::OldHead),
             )
         }
         HeadWord::Ann { ann, .. } => {
-            Turn::Help(help_of(ann, Back::Batch(draft)), HelpPoint::LoadOldHead)
+            Point::Help(help_of(ann, Back::Batch(draft)), HelpPoint::LoadOldHead)
         }
     }
 }
@@ -85,21 +97,15 @@ fn after_head(draft: Draft, head: HeadWord) -> Turn
 impl BatchPoint {
     /// What the next step does with its word.
     pub fn act(self, draft: Draft) -> Act
-        requires { RowsFit (Turn.Batch draft self) }
         ensures { result ≡ act draft self }
     {
         match self {
-            BatchPoint::StoreValue(number, value) => Act::Store(
-                Location::Value {
-                    row: draft.notice.first + number,
-                },
-                Content::OfValue(value),
-            ),
-            BatchPoint::StoreChain(number) => Act::Store(
-                Location::Link {
-                    row: draft.notice.first + number,
-                },
-                Content::OfLink(LinkWord::Single(draft.notice.first + number + 1)),
+            BatchPoint::StoreValue { row, value, .. } => {
+                Act::Store(Location::Value { row }, Content::OfValue(value))
+            }
+            BatchPoint::StoreChain { row, next, .. } => Act::Store(
+                Location::Link { row },
+                Content::OfLink(LinkWord::Single(next)),
             ),
             BatchPoint::StoreField(field) => Act::Store(
                 Location::AnnWord {
@@ -125,19 +131,21 @@ impl BatchPoint {
 
     /// What becomes of the call after the step that found this in its word.
     pub fn course(self, draft: Draft, found: Content) -> Course
-        requires { RowsFit (Turn.Batch draft self) }
+        requires { RowsFit (Point.Batch draft self) }
         ensures { result ≡ course draft self found }
     {
         Course::GoesOn(match self {
-            BatchPoint::StoreValue(number, _) => return after_value(draft, number),
-            BatchPoint::StoreChain(number) => Turn::Batch(draft, after_chain(draft, number)),
-            BatchPoint::StoreField(field) => Turn::Batch(draft, after_field(field)),
+            BatchPoint::StoreValue { number, row, .. } => return after_value(draft, number, row),
+            BatchPoint::StoreChain { number, next, .. } => {
+                Point::Batch(draft, after_chain(draft, number, next))
+            }
+            BatchPoint::StoreField(field) => Point::Batch(draft, after_field(field)),
             BatchPoint::LoadHead => after_head(draft, head_in(found)),
             BatchPoint::Install => {
                 if is_node(head_in(found), draft.notice.old_head) {
-                    Turn::Help(help_of(draft.ann, Back::Own), HelpPoint::LoadOldHead)
+                    Point::Help(help_of(draft.ann, Back::Own), HelpPoint::LoadOldHead)
                 } else {
-                    Turn::Batch(draft, BatchPoint::LoadHead)
+                    Point::Batch(draft, BatchPoint::LoadHead)
                 }
             }
         })
@@ -148,8 +156,8 @@ impl BatchPoint {
         ensures { result ≡ kind_of self }
     {
         match self {
-            BatchPoint::StoreValue(..) => StepKind::StoreValue,
-            BatchPoint::StoreChain(_) => StepKind::StoreChain,
+            BatchPoint::StoreValue { .. } => StepKind::StoreValue,
+            BatchPoint::StoreChain { .. } => StepKind::StoreChain,
             BatchPoint::StoreField(_) => StepKind::StoreAnn,
             BatchPoint::LoadHead => StepKind::LoadHead,
             BatchPoint::Install => StepKind::Install,

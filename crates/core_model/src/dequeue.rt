@@ -8,18 +8,18 @@ use crate::course::Course;
 use crate::found::{behind, head_in, is_node, is_same_place, link_in, tail_in, value_in};
 use crate::help::help_of;
 use crate::kind::StepKind;
-use crate::turn::{Back, DequeuePoint, HelpPoint, Turn};
+use crate::point::{Back, DequeuePoint, HelpPoint, Point};
 use bq_model::Answer;
 use word_rows::{Content, HeadWord, LinkWord, Location, Place};
 
 // It found this in HEAD.
-fn after_head(head: HeadWord) -> Turn
+fn after_head(head: HeadWord) -> Point
     ensures { result ≡ after_head head }
 {
     match head {
-        HeadWord::Node(dummy) => Turn::Dequeue(DequeuePoint::LoadLink(dummy)),
+        HeadWord::Node(dummy) => Point::Dequeue(DequeuePoint::LoadLink(dummy)),
         HeadWord::Ann { ann, .. } => {
-            Turn::Help(help_of(ann, Back::Dequeue), HelpPoint::LoadOldHead)
+            Point::Help(help_of(ann, Back::Dequeue), HelpPoint::LoadOldHead)
         }
     }
 }
@@ -30,28 +30,28 @@ fn after_link(dummy: Place, link: LinkWord) -> Course
 {
     let point = match link {
         LinkWord::Nil => return Course::Ends(Answer::Empty),
-        LinkWord::Single(row) => DequeuePoint::LoadTail(dummy, row),
-        LinkWord::Chain(row) => DequeuePoint::LoadTailOver(dummy, row),
+        LinkWord::Single(row) => DequeuePoint::LoadTail { dummy, row },
+        LinkWord::Chain(row) => DequeuePoint::LoadTailOver { dummy, row },
         LinkWord::Shut => DequeuePoint::LoadHead,
     };
-    Course::GoesOn(Turn::Dequeue(point))
+    Course::GoesOn(Point::Dequeue(point))
 }
 
 impl DequeuePoint {
     /// What the next step does with its word.
     pub fn act(self) -> Act
-        requires { CountsFit (Turn.Dequeue self) }
+        requires { CountsFit (Point.Dequeue self) }
         ensures { result ≡ act self }
     {
         match self {
             DequeuePoint::LoadHead => Act::Load(Location::Head),
             DequeuePoint::LoadLink(dummy) => Act::Load(Location::Link { row: dummy.row }),
-            DequeuePoint::LoadTail(..) | DequeuePoint::LoadTailOver(..) => {
+            DequeuePoint::LoadTail { .. } | DequeuePoint::LoadTailOver { .. } => {
                 Act::Load(Location::Tail)
             }
-            DequeuePoint::PassTail(tail, row) => by_one(tail, row),
-            DequeuePoint::LoadValue(_, row) => Act::Load(Location::Value { row }),
-            DequeuePoint::MoveHead(dummy, row, _) => Act::Exchange(
+            DequeuePoint::PassTail { dummy: tail, row } => by_one(tail, row),
+            DequeuePoint::LoadValue { row, .. } => Act::Load(Location::Value { row }),
+            DequeuePoint::MoveHead { dummy, row, .. } => Act::Exchange(
                 Location::Head,
                 Content::OfHead(HeadWord::Node(dummy)),
                 Content::OfHead(HeadWord::Node(behind(dummy, row))),
@@ -66,32 +66,34 @@ impl DequeuePoint {
         let point = match self {
             DequeuePoint::LoadHead => return Course::GoesOn(after_head(head_in(found))),
             DequeuePoint::LoadLink(dummy) => return after_link(dummy, link_in(found)),
-            DequeuePoint::MoveHead(dummy, _, value) => {
+            DequeuePoint::MoveHead { dummy, value, .. } => {
                 if is_node(head_in(found), dummy) {
                     return Course::Ends(Answer::Got(value));
                 }
                 DequeuePoint::LoadHead
             }
-            DequeuePoint::LoadTail(dummy, row) => {
+            DequeuePoint::LoadTail { dummy, row } => {
                 if is_same_place(tail_in(found), dummy) {
-                    DequeuePoint::PassTail(dummy, row)
+                    DequeuePoint::PassTail { dummy, row }
                 } else {
-                    DequeuePoint::LoadValue(dummy, row)
+                    DequeuePoint::LoadValue { dummy, row }
                 }
             }
-            DequeuePoint::LoadTailOver(dummy, row) => {
+            DequeuePoint::LoadTailOver { dummy, row } => {
                 if is_same_place(tail_in(found), dummy) {
                     DequeuePoint::LoadHead
                 } else {
-                    DequeuePoint::LoadValue(dummy, row)
+                    DequeuePoint::LoadValue { dummy, row }
                 }
             }
-            DequeuePoint::PassTail(..) => DequeuePoint::LoadHead,
-            DequeuePoint::LoadValue(dummy, row) => {
-                DequeuePoint::MoveHead(dummy, row, value_in(found))
-            }
+            DequeuePoint::PassTail { .. } => DequeuePoint::LoadHead,
+            DequeuePoint::LoadValue { dummy, row } => DequeuePoint::MoveHead {
+                dummy,
+                row,
+                value: value_in(found),
+            },
         };
-        Course::GoesOn(Turn::Dequeue(point))
+        Course::GoesOn(Point::Dequeue(point))
     }
 
     /// The kind of the next step.
@@ -101,10 +103,10 @@ impl DequeuePoint {
         match self {
             DequeuePoint::LoadHead => StepKind::LoadHead,
             DequeuePoint::LoadLink(_) => StepKind::LoadLink,
-            DequeuePoint::LoadTail(..) | DequeuePoint::LoadTailOver(..) => StepKind::LoadTail,
-            DequeuePoint::PassTail(..) => StepKind::MoveTail,
-            DequeuePoint::LoadValue(..) => StepKind::LoadValue,
-            DequeuePoint::MoveHead(..) => StepKind::MoveHead,
+            DequeuePoint::LoadTail { .. } | DequeuePoint::LoadTailOver { .. } => StepKind::LoadTail,
+            DequeuePoint::PassTail { .. } => StepKind::MoveTail,
+            DequeuePoint::LoadValue { .. } => StepKind::LoadValue,
+            DequeuePoint::MoveHead { .. } => StepKind::MoveHead,
         }
     }
 }

@@ -8,7 +8,7 @@ use crate::course::Course;
 use crate::found::{head_in, is_nil, link_in, tail_in};
 use crate::help::help_of;
 use crate::kind::StepKind;
-use crate::turn::{Back, EnqueuePoint, HelpPoint, Item, Turn};
+use crate::point::{Back, EnqueuePoint, HelpPoint, Item, Point};
 use bq_model::Answer;
 use word_rows::{Content, HeadWord, LinkWord, Location, Place};
 
@@ -18,19 +18,19 @@ fn after_link(tail: Place, link: LinkWord) -> EnqueuePoint
 {
     match link {
         LinkWord::Nil => EnqueuePoint::LinkSingle(tail),
-        LinkWord::Single(row) => EnqueuePoint::PassTail(tail, row),
+        LinkWord::Single(row) => EnqueuePoint::PassTail { tail, row },
         LinkWord::Chain(_) => EnqueuePoint::LoadHead,
         LinkWord::Shut => EnqueuePoint::LoadTail,
     }
 }
 
 // It met a chain, and found this in HEAD.
-fn after_head(item: Item, head: HeadWord) -> Turn
+fn after_head(item: Item, head: HeadWord) -> Point
     ensures { result ≡ after_head item head }
 {
     match head {
-        HeadWord::Node(_) => Turn::Enqueue(item, EnqueuePoint::LoadTail),
-        HeadWord::Ann { ann, .. } => Turn::Help(
+        HeadWord::Node(_) => Point::Enqueue(item, EnqueuePoint::LoadTail),
+        HeadWord::Ann { ann, .. } => Point::Help(
             help_of(ann, Back::Enqueue(item)),
             HelpPoint::LoadOldHead,
         ),
@@ -40,7 +40,7 @@ fn after_head(item: Item, head: HeadWord) -> Turn
 impl EnqueuePoint {
     /// What the next step does with its word.
     pub fn act(self, item: Item) -> Act
-        requires { CountsFit (Turn.Enqueue item self) }
+        requires { CountsFit (Point.Enqueue item self) }
         ensures { result ≡ act item self }
     {
         match self {
@@ -55,7 +55,7 @@ impl EnqueuePoint {
                 Content::OfLink(LinkWord::Nil),
                 Content::OfLink(LinkWord::Single(item.row)),
             ),
-            EnqueuePoint::PassTail(tail, row) | EnqueuePoint::MoveTail(tail, row) => {
+            EnqueuePoint::PassTail { tail, row } | EnqueuePoint::MoveTail { tail, row } => {
                 by_one(tail, row)
             }
             EnqueuePoint::LoadHead => Act::Load(Location::Head),
@@ -67,22 +67,25 @@ impl EnqueuePoint {
         ensures { result ≡ course item self found }
     {
         Course::GoesOn(match self {
-            EnqueuePoint::MoveTail(..) => return Course::Ends(Answer::Done),
+            EnqueuePoint::MoveTail { .. } => return Course::Ends(Answer::Done),
             EnqueuePoint::LoadHead => after_head(item, head_in(found)),
-            EnqueuePoint::StoreValue | EnqueuePoint::PassTail(..) => {
-                Turn::Enqueue(item, EnqueuePoint::LoadTail)
+            EnqueuePoint::StoreValue | EnqueuePoint::PassTail { .. } => {
+                Point::Enqueue(item, EnqueuePoint::LoadTail)
             }
             EnqueuePoint::LoadTail => {
-                Turn::Enqueue(item, EnqueuePoint::LoadLink(tail_in(found)))
+                Point::Enqueue(item, EnqueuePoint::LoadLink(tail_in(found)))
             }
-            EnqueuePoint::LoadLink(tail) => Turn::Enqueue(item, after_link(tail, link_in(found))),
+            EnqueuePoint::LoadLink(tail) => Point::Enqueue(item, after_link(tail, link_in(found))),
             EnqueuePoint::LinkSingle(tail) => {
                 let point = if is_nil(link_in(found)) {
-                    EnqueuePoint::MoveTail(tail, item.row)
+                    EnqueuePoint::MoveTail {
+                        tail,
+                        row: item.row,
+                    }
                 } else {
                     EnqueuePoint::LoadTail
                 };
-                Turn::Enqueue(item, point)
+                Point::Enqueue(item, point)
             }
         })
     }
@@ -96,7 +99,7 @@ impl EnqueuePoint {
             EnqueuePoint::LoadTail => StepKind::LoadTail,
             EnqueuePoint::LoadLink(_) => StepKind::LoadLink,
             EnqueuePoint::LinkSingle(_) => StepKind::LinkSingle,
-            EnqueuePoint::PassTail(..) | EnqueuePoint::MoveTail(..) => StepKind::MoveTail,
+            EnqueuePoint::PassTail { .. } | EnqueuePoint::MoveTail { .. } => StepKind::MoveTail,
             EnqueuePoint::LoadHead => StepKind::LoadHead,
         }
     }

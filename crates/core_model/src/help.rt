@@ -1,7 +1,7 @@
 // A help: it reads the announcement in HEAD, links its chain, records its old tail, and moves TAIL and HEAD over it.
 ghost use Rattle.std.specs.Prelude.{◌≡◌};
 ghost use Rattle.core_model.specs.Batches.{gets};
-ghost use Rattle.core_model.specs.Help.{help_of, act, after_old_tail, after_link, after_record, walk_on, before_it, walk, back_turn, after_walk, course, kind_of};
+ghost use Rattle.core_model.specs.Help.{help_of, act, after_old_tail, after_link, after_record, walk_on, before_it, walk, back_point, after_walk, course, kind_of};
 ghost use Rattle.core_model.specs.Ranges.{CountsFit};
 
 use crate::act::{Act, by_one};
@@ -9,8 +9,8 @@ use crate::course::Course;
 use crate::found::{far_behind, is_same_place, link_in, old_tail_in, tail_in};
 use crate::kind::StepKind;
 use crate::notice::{chain_end_in, counts_in, dummy_in};
-use crate::turn::{
-    AnswerPoint, Back, BatchPoint, DequeuePoint, EnqueuePoint, Help, HelpPoint, Turn,
+use crate::point::{
+    AnswerPoint, Back, BatchPoint, DequeuePoint, EnqueuePoint, Help, HelpPoint, Point,
 };
 use word_rows::{AnnField, BatchCounts, Content, HeadWord, LinkWord, Location, Place};
 
@@ -54,7 +54,7 @@ fn after_link(help: Help, tail: Place, link: LinkWord) -> HelpPoint
 {
     match link {
         LinkWord::Nil => HelpPoint::LinkChain(tail),
-        LinkWord::Single(row) => HelpPoint::PassTail(tail, row),
+        LinkWord::Single(row) => HelpPoint::PassTail { tail, row },
         LinkWord::Chain(row) => {
             if row == help.first {
                 HelpPoint::RecordTail(tail)
@@ -89,9 +89,13 @@ fn walk_on(values: u32, row: u32, left: u32) -> HelpPoint
     ensures { result ≡ walk_on values row left }
 {
     if left == 0 {
-        HelpPoint::MoveHead(values, row)
+        HelpPoint::MoveHead { values, row }
     } else {
-        HelpPoint::LoadWalk(values, row, left - 1)
+        HelpPoint::LoadWalk {
+            values,
+            row,
+            left: left - 1,
+        }
     }
 }
 
@@ -109,33 +113,33 @@ fn walk(help: Help, old_tail: Place) -> HelpPoint
 }
 
 // Where the caller goes on after it.
-fn back_turn(help: Help, back: Back) -> Turn
-    ensures { result ≡ back_turn help back }
+fn back_point(help: Help, back: Back) -> Point
+    ensures { result ≡ back_point help back }
 {
     match back {
-        Back::Own => Turn::Answer(AnswerPoint::LoadOldTail(help)),
-        Back::Enqueue(item) => Turn::Enqueue(item, EnqueuePoint::LoadTail),
-        Back::Dequeue => Turn::Dequeue(DequeuePoint::LoadHead),
-        Back::Batch(draft) => Turn::Batch(draft, BatchPoint::LoadHead),
+        Back::Own => Point::Answer(AnswerPoint::LoadOldTail(help)),
+        Back::Enqueue(item) => Point::Enqueue(item, EnqueuePoint::LoadTail),
+        Back::Dequeue => Point::Dequeue(DequeuePoint::LoadHead),
+        Back::Batch(draft) => Point::Batch(draft, BatchPoint::LoadHead),
     }
 }
 
 // It found this on its walk.
-fn after_walk(help: Help, values: u32, left: u32, link: LinkWord) -> Turn
+fn after_walk(help: Help, values: u32, left: u32, link: LinkWord) -> Point
     ensures { result ≡ after_walk help values left link }
 {
     match link {
-        LinkWord::Single(row) => Turn::Help(help, walk_on(values, row, left)),
-        LinkWord::Chain(row) => Turn::Help(help, walk_on(values, row, left)),
-        LinkWord::Nil => back_turn(help, help.back),
-        LinkWord::Shut => back_turn(help, help.back),
+        LinkWord::Single(row) => Point::Help(help, walk_on(values, row, left)),
+        LinkWord::Chain(row) => Point::Help(help, walk_on(values, row, left)),
+        LinkWord::Nil => back_point(help, help.back),
+        LinkWord::Shut => back_point(help, help.back),
     }
 }
 
 impl HelpPoint {
     /// What the next step does with its word.
     pub fn act(self, help: Help) -> Act
-        requires { CountsFit (Turn.Help help self) }
+        requires { CountsFit (Point.Help help self) }
         ensures { result ≡ act help self }
     {
         match self {
@@ -146,13 +150,13 @@ impl HelpPoint {
             HelpPoint::LoadOldTail(_) => field_of(help.ann, AnnField::OldTail),
             HelpPoint::LoadTail | HelpPoint::LoadTailOver(_) => Act::Load(Location::Tail),
             HelpPoint::LoadLink(tail) => Act::Load(Location::Link { row: tail.row }),
-            HelpPoint::LoadWalk(_, row, _) => Act::Load(Location::Link { row }),
+            HelpPoint::LoadWalk { row, .. } => Act::Load(Location::Link { row }),
             HelpPoint::LinkChain(tail) => Act::Exchange(
                 Location::Link { row: tail.row },
                 Content::OfLink(LinkWord::Nil),
                 Content::OfLink(LinkWord::Chain(help.first)),
             ),
-            HelpPoint::PassTail(tail, row) => by_one(tail, row),
+            HelpPoint::PassTail { tail, row } => by_one(tail, row),
             HelpPoint::RecordTail(tail) => Act::Exchange(
                 Location::AnnWord {
                     ann: help.ann,
@@ -166,7 +170,7 @@ impl HelpPoint {
                 Content::OfTail(tail),
                 Content::OfTail(far_behind(tail, help.last, help.counts.enqs)),
             ),
-            HelpPoint::MoveHead(values, row) => Act::Exchange(
+            HelpPoint::MoveHead { values, row } => Act::Exchange(
                 Location::Head,
                 Content::OfHead(HeadWord::Ann {
                     ann: help.ann,
@@ -182,30 +186,30 @@ impl HelpPoint {
         ensures { result ≡ course help self found }
     {
         let point = match self {
-            HelpPoint::LoadWalk(values, _, left) => {
+            HelpPoint::LoadWalk { values, left, .. } => {
                 return Course::GoesOn(after_walk(help, values, left, link_in(found)));
             }
-            HelpPoint::MoveHead(..) => return Course::GoesOn(back_turn(help, help.back)),
+            HelpPoint::MoveHead { .. } => return Course::GoesOn(back_point(help, help.back)),
             HelpPoint::LoadOldHead => {
                 let old_head = dummy_in(found);
-                return Course::GoesOn(Turn::Help(Help { old_head, ..help }, HelpPoint::LoadFirst));
+                return Course::GoesOn(Point::Help(Help { old_head, ..help }, HelpPoint::LoadFirst));
             }
             HelpPoint::LoadFirst => {
                 let first = chain_end_in(found);
-                return Course::GoesOn(Turn::Help(Help { first, ..help }, HelpPoint::LoadLast));
+                return Course::GoesOn(Point::Help(Help { first, ..help }, HelpPoint::LoadLast));
             }
             HelpPoint::LoadLast => {
                 let last = chain_end_in(found);
-                return Course::GoesOn(Turn::Help(Help { last, ..help }, HelpPoint::LoadCounts));
+                return Course::GoesOn(Point::Help(Help { last, ..help }, HelpPoint::LoadCounts));
             }
             HelpPoint::LoadCounts => {
                 let counts = counts_in(found);
-                return Course::GoesOn(Turn::Help(Help { counts, ..help }, HelpPoint::LoadTail));
+                return Course::GoesOn(Point::Help(Help { counts, ..help }, HelpPoint::LoadTail));
             }
             HelpPoint::LoadTail => HelpPoint::LoadOldTail(tail_in(found)),
             HelpPoint::LoadOldTail(tail) => after_old_tail(tail, old_tail_in(found)),
             HelpPoint::LoadLink(tail) => after_link(help, tail, link_in(found)),
-            HelpPoint::LinkChain(_) | HelpPoint::PassTail(..) => HelpPoint::LoadTail,
+            HelpPoint::LinkChain(_) | HelpPoint::PassTail { .. } => HelpPoint::LoadTail,
             HelpPoint::RecordTail(tail) => after_record(tail, old_tail_in(found)),
             HelpPoint::LoadTailOver(old_tail) => {
                 if is_same_place(tail_in(found), old_tail) {
@@ -216,7 +220,7 @@ impl HelpPoint {
             }
             HelpPoint::MoveTailOver(old_tail) => walk(help, old_tail),
         };
-        Course::GoesOn(Turn::Help(help, point))
+        Course::GoesOn(Point::Help(help, point))
     }
 
     /// The kind of the next step.
@@ -229,12 +233,12 @@ impl HelpPoint {
             }
             HelpPoint::LoadCounts | HelpPoint::LoadOldTail(_) => StepKind::LoadAnn,
             HelpPoint::LoadTail | HelpPoint::LoadTailOver(_) => StepKind::LoadTail,
-            HelpPoint::LoadLink(_) | HelpPoint::LoadWalk(..) => StepKind::LoadLink,
+            HelpPoint::LoadLink(_) | HelpPoint::LoadWalk { .. } => StepKind::LoadLink,
             HelpPoint::LinkChain(_) => StepKind::LinkChain,
-            HelpPoint::PassTail(..) => StepKind::MoveTail,
+            HelpPoint::PassTail { .. } => StepKind::MoveTail,
             HelpPoint::RecordTail(_) => StepKind::RecordTail,
             HelpPoint::MoveTailOver(_) => StepKind::MoveTailOver,
-            HelpPoint::MoveHead(..) => StepKind::MoveHeadAnn,
+            HelpPoint::MoveHead { .. } => StepKind::MoveHeadAnn,
         }
     }
 }

@@ -1,9 +1,9 @@
 // The kinds of atomic step.
 ghost use Rattle.std.specs.Prelude.{◌≡◌, ◌≢◌, Some};
 ghost use Rattle.core_model.specs.Kind.{kind_of};
-ghost use Rattle.core_model.specs.declared.turn.Turn.TheVariants.{Idle};
+ghost use Rattle.core_model.specs.declared.point.Point.TheVariants.{Idle};
 
-use crate::turn::Turn;
+use crate::point::Point;
 
 /// A kind of atomic step. Each is one load, one store or one exchange of one word.
 #[derive(Clone, Copy, Debug, PartialEq, Eq, Hash)]
@@ -42,23 +42,23 @@ pub enum StepKind {
     MoveHeadAnn,
 }
 
-impl Turn {
+impl Point {
     /// The kind of the next step; `None` where no command runs.
     pub fn kind(self) -> Option<StepKind>
         ensures { result ≡ kind_of self }
     {
         Some(match self {
-            Turn::Idle => return None,
-            Turn::Enqueue(_, point) => point.kind(),
-            Turn::Dequeue(point) => point.kind(),
-            Turn::Batch(_, point) => point.kind(),
-            Turn::Help(_, point) => point.kind(),
-            Turn::Answer(point) => point.kind(),
+            Point::Idle => return None,
+            Point::Enqueue(_, point) => point.kind(),
+            Point::Dequeue(point) => point.kind(),
+            Point::Batch(_, point) => point.kind(),
+            Point::Help(_, point) => point.kind(),
+            Point::Answer(point) => point.kind(),
         })
     }
 }
 
-impl Turn {
+impl Point {
     /// The kind of the next step of a running command.
     pub fn running_kind(self) -> StepKind
         requires { self ≢ Idle }

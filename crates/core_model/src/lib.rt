@@ -18,8 +18,8 @@ mod help;
 mod kind;
 mod laws;
 mod notice;
+mod point;
 mod step;
-mod turn;
 
 pub use act::Act;
 pub use course::Course;
@@ -29,11 +29,12 @@ pub use found::{
 };
 pub use kind::StepKind;
 pub use laws::{
-    a_step_is_its_callers_alone, announced_batch_is_its_owners, counts_stay_in_range,
-    each_event_keeps_the_lane_lawful, ended_commands_stand_in_the_history,
-    full_comes_exactly_without_a_row, words_show_the_last_queue,
+    a_lane_opens_as_its_table, a_step_is_its_callers_alone, a_step_stores_into_one_word,
+    announced_batch_is_its_owners, counts_stay_in_range, each_event_keeps_the_lane_lawful,
+    ended_commands_stand_in_the_history, full_comes_exactly_without_a_row,
+    starts_and_ends_are_noted, words_show_the_last_queue,
 };
-pub use turn::{
+pub use point::{
     AnswerPoint, Back, BatchPoint, CallEnd, DequeuePoint, Draft, EnqueuePoint, Help, HelpPoint,
-    Item, Notice, Turn,
+    Item, Notice, Point,
 };

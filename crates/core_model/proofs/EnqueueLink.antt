@@ -1,4 +1,4 @@
--- An enqueue links its row behind the last one.
+-- The exchange that links a row at the end of the list: the enqueue takes effect.
 use Rattle.std.proofs.Common.{◌≡◌, ◌≢◌, inl, ℕ, suc, ◌+◌, ◌*◌, ◌<◌, ◌≤◌, Bool, true, false, cond, List, [], ◌∷◌, ◌++◌, length, sym, refl, ap, ◌∙◌, subst, arith, le_refl, length-append, Option, Some, None}
 use Rattle.std.proofs.lemmas.List.{append-nil}
 use mathlib.Core.Logic.{dite}
@@ -13,28 +13,28 @@ use Rattle.word_rows.specs.declared.link_word.LinkWord.{LinkWord}
 use Rattle.word_rows.specs.declared.link_word.LinkWord.TheVariants.{Nil, Single, Chain, Shut}
 use Rattle.word_rows.specs.declared.location.Location.TheVariants.{Link}
 use Rattle.word_rows.specs.declared.content.Content.TheVariants.{OfLink}
-use Rattle.core_model.specs.declared.turn.Item.{Item}
-use Rattle.core_model.specs.declared.turn.Turn.TheVariants as turn
-use Rattle.core_model.specs.declared.turn.EnqueuePoint.TheVariants as enq
+use Rattle.core_model.specs.declared.point.Item.{Item}
+use Rattle.core_model.specs.declared.point.Point.TheVariants as point
+use Rattle.core_model.specs.declared.point.EnqueuePoint.TheVariants as enq
 use Rattle.core_model.specs.Functions.{put, run}
-use Rattle.core_model.specs.Lane.{Lane, item, IsItem}
+use Rattle.core_model.specs.LaneSizes.{LaneSizes, item, IsItem}
 use Rattle.core_model.specs.State.{Memory, Caller, State, own_group}
-use Rattle.core_model.specs.Fact.{linked, owns, holds_item, is_op, landed_is}
-use Rattle.core_model.specs.Step.{turned, step_with, step_at}
-use Rattle.core_model.specs.Facts.{Holds, AtTurn, Knows}
-use Rattle.core_model.specs.Ghost.{at, Ghost, World, places, joint, Unlinked, LinkAt, On}
+use Rattle.core_model.specs.Fact.{linked, owns, holds_item, is_op, linearized_is}
+use Rattle.core_model.specs.Step.{stepped, step_with, step_at}
+use Rattle.core_model.specs.Facts.{Holds, AtPoint, Knows}
+use Rattle.core_model.specs.Ghost.{at, Ghost, World, positions, joint, Unlinked, LinkAt, On}
 use Rattle.core_model.specs.Kept.{Kept}
 use Rattle.core_model.specs.Lawful.{shown_queue, head_word, Listed, ItemRows, Headed, Tailed, Announced, IsTold, Waits, OwnGroups, Lawful}
 use Rattle.core_model.proofs.Puts.{put_here, put_else, run_last, run_same}
 use Rattle.core_model.proofs.Groups.{mine-push_other}
-use Rattle.core_model.proofs.Stays.{world, anns_same, Grows, owns_stays, kept_stays}
-use Rattle.core_model.proofs.Keeps.{kept_turned, known, quiet, keeps, changed, drafts_same, told_on, waits_on, waits_there, lands_proper, lands_operations, lands_mine}
+use Rattle.core_model.proofs.Stable.{world, anns_same, Rely, owns_stable, kept_stable}
+use Rattle.core_model.proofs.Preserves.{kept_stepped, known, stutters, preserves, changed, drafts_same, told_on, waits_on, waits_there, linearizes_proper, linearizes_operations, linearizes_mine}
 use Rattle.core_model.specs.Batches.{owner_of}
 use Rattle.core_model.proofs.Announces.{stages_moved, told_same, pending_same, links_put}
-use Rattle.core_model.proofs.Loads.{is_last}
+use Rattle.core_model.proofs.Lookups.{is_last}
 
-module _ (z : Lane) (s : State) (L : Lawful z s) (c : ℕ) where
-  module _ (x : Item) (p : Place) (off : Holds z (world s L.ghost) c (landed_is false)) (op : Holds z (world s L.ghost) c (is_op (s.callers c).ops (Enq x.value)))
+module _ (z : LaneSizes) (s : State) (L : Lawful z s) (c : ℕ) where
+  module _ (x : Item) (p : Place) (off : Holds z (world s L.ghost) c (linearized_is false)) (op : Holds z (world s L.ghost) c (is_op (s.callers c).ops (Enq x.value)))
       (o : Holds z (world s L.ghost) c (owns (s.callers c).taken x.row)) (full : Holds z (world s L.ghost) c (holds_item x))
       (f : Holds z (world s L.ghost) c (linked p)) (seen : p.count ≤ z.first + L.ghost.tail) (nil : s.memory.link p.row ≡ Nil) where
     abbrev G : Ghost
@@ -45,7 +45,7 @@ module _ (z : Lane) (s : State) (L : Lawful z s) (c : ℕ) where
     e = G.head + G.rest
 
     abbrev n : ℕ
-    n = places G
+    n = positions G
 
     abbrev path' : ℕ → ℕ
     path' = put G.path (suc (G.head + G.rest)) x.row
@@ -60,10 +60,10 @@ module _ (z : Lane) (s : State) (L : Lawful z s) (c : ℕ) where
     link' = put s.memory.link p.row (Single x.row)
 
     abbrev G' : Ghost
-    G' = record G { path = path'; chained = chained'; rest = suc G.rest; queued = suc G.queued; landed = put G.landed c true; spot = spot' }
+    G' = record G { path = path'; chained = chained'; rest = suc G.rest; queued = suc G.queued; linearized = put G.linearized c true; spot = spot' }
 
     abbrev k' : Caller
-    k' = turned (s.callers c) (turn.Enqueue x (enq.MoveTail p x.row))
+    k' = stepped (s.callers c) (point.Enqueue x (enq.MoveTail p x.row))
 
     abbrev own : Group
     own = own_group c (s.callers c)
@@ -122,7 +122,7 @@ module _ (z : Lane) (s : State) (L : Lawful z s) (c : ℕ) where
         ∙ sym (ap (λ (b : Bool). joint b (path' (suc i))) (put_else G.chained e false i apart) ∙ ap (joint (G.chained i)) (old_path (suc i) below))
 
     -- a fact of each place
-    each_place : (P : ℕ → ℕ → Type 0) (from : ℕ) → ((i : ℕ) → from ≤ i → i < n → P i (G.path i)) → P n x.row → (i : ℕ) → from ≤ i → i < places G' → P i (path' i)
+    each_place : (P : ℕ → ℕ → Type 0) (from : ℕ) → ((i : ℕ) → from ≤ i → i < n → P i (G.path i)) → P n x.row → (i : ℕ) → from ≤ i → i < positions G' → P i (path' i)
     each_place P from old new i above below = dite (ℕ_discrete i n) (λ is. subst (λ (j : ℕ). P j (path' j)) (sym is) (subst (P n) (sym new_path) new))
         (λ apart. let below' : i < n = omega arith in subst (P i) (sym (old_path i below')) (old i above below'))
 
@@ -173,8 +173,8 @@ module _ (z : Lane) (s : State) (L : Lawful z s) (c : ℕ) where
           (λ apart. let inside = on.0 in old_link i r (omega arith) apart on.1 (on.3.1 (omega arith))),
     )
 
-    grows : Grows z (λ r. r ≡ x.row) (world s G) W
-    grows = record {
+    rely : Rely z (λ r. r ≡ x.row) (world s G) W
+    rely = record {
       longer = omega arith;
       heads = le_refl _;
       tails = le_refl _;
@@ -193,17 +193,17 @@ module _ (z : Lane) (s : State) (L : Lawful z s) (c : ℕ) where
     now = (L.callers c).knows.started
 
     kept' : Kept (s.history ++ own ∷ []) c k'
-    kept' = kept_turned (s.history ++ own ∷ []) c (s.callers c) (turn.Enqueue x (enq.MoveTail p x.row)) (s.callers c).values (kept_stays z (λ r. r ≡ x.row) (world s G) W grows c (s.callers c) (L.callers c).knows.last)
+    kept' = kept_stepped (s.history ++ own ∷ []) c (s.callers c) (point.Enqueue x (enq.MoveTail p x.row)) (s.callers c).values (kept_stable z (λ r. r ≡ x.row) (world s G) W rely c (s.callers c) (L.callers c).knows.last)
 
     knows' : Knows z W c k'
     knows' = record {
-      unused = λ i from below known. owns_stays z (λ r. r ≡ x.row) (world s G) W grows c (item z c i) (o.1 i from) ((L.callers c).knows.unused i from below known);
+      unused = λ i from below known. owns_stable z (λ r. r ≡ x.row) (world s G) W rely c (item z c i) (o.1 i from) ((L.callers c).knows.unused i from below known);
       started = let from = now in let total = length-append s.history (own ∷ []) in omega arith;
       last = kept';
-      at_turn = record {
+      at_point = record {
         call = (
-          (put_here G.landed c true, off.1),
-          ((record { before = s.history; behind = []; place = sym (append-nil (s.history ++ own ∷ [])); right = sym (ap (answers_from (last_queue s.history)) op.0) }, now), tt),
+          (put_here G.linearized c true, off.1),
+          ((record { before = s.history; behind = []; splits = sym (append-nil (s.history ++ own ∷ [])); right = sym (ap (answers_from (last_queue s.history)) op.0) }, now), tt),
         );
         here = (
           ((let here = count_is in omega arith), o.0.inside, λ i is. let here = count_is in let same : i ≡ e = omega arith in (omega arith, ap (λ (y : ℕ). path' (suc y)) same ∙ new_path)),
@@ -212,14 +212,14 @@ module _ (z : Lane) (s : State) (L : Lawful z s) (c : ℕ) where
       };
     }
 
-    groups' : OwnGroups c (s.history ++ own ∷ []) k' (put G.landed c true c)
-    groups' = lands_mine z s L c (Enq x.value) off.0 op ∙ ap (λ (b : Bool). (s.callers c).mine ++ cond b (own ∷ []) []) (sym (put_here G.landed c true))
+    groups' : OwnGroups c (s.history ++ own ∷ []) k' (put G.linearized c true c)
+    groups' = linearizes_mine z s L c (Enq x.value) off.0 op ∙ ap (λ (b : Bool). (s.callers c).mine ++ cond b (own ∷ []) []) (sym (put_here G.linearized c true))
 
     tail_is : G.tail ≡ e
     tail_is = let within = L.list.tail.within in let late = seen in let here = count_is in omega arith
 
     announced' : Announced z memory' G'
-    announced' = let at_end = tail_is in stages_moved z.first (z.callers * z.callers) G.stage G.ann s.memory.said s.memory.old_tail G.path path' G.chained chained' G.cause G.head G.head (G.head + G.rest) (G.head + suc G.rest) G.shown G.shown G.tail G.tail
+    announced' = let at_end = tail_is in stages_moved z.first (z.callers * z.callers) G.stage G.ann s.memory.notice s.memory.old_tail G.path path' G.chained chained' G.cause G.head G.head (G.head + G.rest) (G.head + suc G.rest) G.shown G.shown G.tail G.tail
         (omega arith) (omega arith) (λ i below. old_path i (omega arith)) (λ i below. put_else G.chained e false i (λ is. omega arith)) (le_refl _) (λ _ _. (refl, refl))
         (λ a i at f. (L.announced.standing a i at f).tails) (λ a i f none. (L.announced.unrecorded a i f none).1)
         (λ _ is. absurd (differ (sym is ∙ (ap chained' tail_is ∙ put_here G.chained e false)))) L.announced where
@@ -227,35 +227,35 @@ module _ (z : Lane) (s : State) (L : Lawful z s) (c : ℕ) where
           differ y = cc y
 
     told' : (a : ℕ) → IsTold z memory' G' (put s.callers c k') a
-    told' = told_on z s L c memory' G' (turn.Enqueue x (enq.MoveTail p x.row)) (inl off.1) (λ a at_head. told_same s.memory.value s.memory.value G.path path' (G.stage a) (s.memory.said a) (owner_of z a) (s.callers (owner_of z a))
+    told' = told_on z s L c memory' G' (point.Enqueue x (enq.MoveTail p x.row)) (inl off.1) (λ a at_head. told_same s.memory.value s.memory.value G.path path' (G.stage a) (s.memory.notice a) (owner_of z a) (s.callers (owner_of z a))
         (λ i j d from below. let inside = (L.announced.bound a i d).within in ap s.memory.value (old_path j (omega arith))) (L.told a at_head))
 
     pending' : (a : ℕ) → Waits z memory' G' (put s.callers c k') a
-    pending' = waits_on z s L c memory' G' (turn.Enqueue x (enq.MoveTail p x.row)) (λ a waits. let P = L.pending a waits in
-        pending_same z s.memory.link link' s.memory.value s.memory.value G.spot spot' G.chain (G.landed (owner_of z a)) (put G.landed c true (owner_of z a)) (s.memory.said a) (owner_of z a) (s.callers (owner_of z a))
+    pending' = waits_on z s L c memory' G' (point.Enqueue x (enq.MoveTail p x.row)) (λ a waits. let P = L.pending a waits in
+        pending_same z s.memory.link link' s.memory.value s.memory.value G.spot spot' G.chain (G.linearized (owner_of z a)) (put G.linearized c true (owner_of z a)) (s.memory.notice a) (owner_of z a) (s.callers (owner_of z a))
         (λ i below. own_link (G.chain i) (P.unlinked i below)) (λ _ _. refl)
         (λ i below. put_else G.spot x.row (Some n) (G.chain i) (λ is. off.1 a (waits_there z s L c a waits) (sym (P.homes i below) ∙ (ap z.home is ∙ o.0.at_home))) ∙ P.unlinked i below)
-        (put_else G.landed c true (owner_of z a) (off.1 a (waits_there z s L c a waits))) P)
+        (put_else G.linearized c true (owner_of z a) (off.1 a (waits_there z s L c a waits))) P)
 
-    pub appended : Lawful z (changed s c memory' (own_group c (s.callers c) ∷ []) k')
-    appended = keeps z s L c memory' (own ∷ []) G' k' (λ r. r ≡ x.row) (λ r is. ap z.home is ∙ o.0.at_home) grows
-        (λ d apart. record { landed = put_else G.landed c true d apart; made = mine-push_other s.history own d apart; drafts = drafts_same z (world s G) W refl refl refl d; unmade = (L.callers d).unmade })
-        (lands_proper z s L c (Enq x.value) off.0 op) queue'
+    pub appended : Lawful z (changed s c memory' (s.history ++ own_group c (s.callers c) ∷ []) k')
+    appended = preserves z s L c memory' (s.history ++ own ∷ []) G' k' (λ r. r ≡ x.row) (λ r is. ap z.home is ∙ o.0.at_home) rely
+        (λ d apart. record { linearized = put_else G.linearized c true d apart; made = mine-push_other s.history own d apart; drafts = drafts_same z (world s G) W refl refl refl d; unmade = (L.callers d).unmade })
+        (linearizes_proper z s L c (Enq x.value) off.0 op) queue'
         (record {
           rows = listed';
           item_rows = items';
           head = headed';
           tail = tailed';
-          counts = let more = lands_operations z s L c (Enq x.value) off.0 op in let was = L.list.counts in omega arith;
+          counts = let more = linearizes_operations z s L c (Enq x.value) off.0 op in let was = L.list.counts in omega arith;
           links = links_put z.rows s.memory.link p.row (Single x.row) o.0.inside L.list.links;
         })
         announced' told' pending' (record { unmade = (L.callers c).unmade; own_groups = groups'; allowed = (L.callers c).allowed; knows = knows' })
 
-  link_single : (x : Item) (p : Place) (l : LinkWord) → s.memory.link p.row ≡ l → AtTurn z (world s L.ghost) c (s.callers c) (turn.Enqueue x (enq.LinkSingle p)) → Lawful z (step_with z s c (turn.Enqueue x (enq.LinkSingle p)) (OfLink l))
+  link_single : (x : Item) (p : Place) (l : LinkWord) → s.memory.link p.row ≡ l → AtPoint z (world s L.ghost) c (s.callers c) (point.Enqueue x (enq.LinkSingle p)) → Lawful z (step_with z s c (point.Enqueue x (enq.LinkSingle p)) (OfLink l))
   link_single x p Nil is f = appended x p f.call.0 f.call.1.0 f.call.1.1.0 f.call.1.1.1.0 f.here.0 f.here.1.0 is
-  link_single x p (Single r) is f = quiet z s L c (turn.Enqueue x enq.LoadTail) (Link p.row) (OfLink (Single r)) (ap OfLink is) (record { call = f.call; here = tt })
-  link_single x p (Chain r) is f = quiet z s L c (turn.Enqueue x enq.LoadTail) (Link p.row) (OfLink (Chain r)) (ap OfLink is) (record { call = f.call; here = tt })
-  link_single x p Shut is f = quiet z s L c (turn.Enqueue x enq.LoadTail) (Link p.row) (OfLink Shut) (ap OfLink is) (record { call = f.call; here = tt })
+  link_single x p (Single r) is f = stutters z s L c (point.Enqueue x enq.LoadTail) (Link p.row) (OfLink (Single r)) (ap OfLink is) (record { call = f.call; here = tt })
+  link_single x p (Chain r) is f = stutters z s L c (point.Enqueue x enq.LoadTail) (Link p.row) (OfLink (Chain r)) (ap OfLink is) (record { call = f.call; here = tt })
+  link_single x p Shut is f = stutters z s L c (point.Enqueue x enq.LoadTail) (Link p.row) (OfLink Shut) (ap OfLink is) (record { call = f.call; here = tt })
 
-  pub keeps_link_single : (x : Item) (p : Place) → (s.callers c).turn ≡ turn.Enqueue x (enq.LinkSingle p) → Lawful z (step_at z s c (turn.Enqueue x (enq.LinkSingle p)))
-  keeps_link_single x p is = link_single x p (s.memory.link p.row) refl (known z s L c (turn.Enqueue x (enq.LinkSingle p)) is)
+  pub preserves_link_single : (x : Item) (p : Place) → (s.callers c).point ≡ point.Enqueue x (enq.LinkSingle p) → Lawful z (step_at z s c (point.Enqueue x (enq.LinkSingle p)))
+  preserves_link_single x p is = link_single x p (s.memory.link p.row) refl (known z s L c (point.Enqueue x (enq.LinkSingle p)) is)

@@ -1,4 +1,4 @@
-// Where a caller is in its call, with its operands and what it has read.
+// The points of a call: where its caller is, with its operands and what it has read.
 
 use word_rows::{AnnField, BatchCounts, BatchNumber, Place};
 
@@ -75,9 +75,9 @@ pub enum EnqueuePoint {
     /// It links its row behind the tail's row.
     LinkSingle(Place),
     /// It moves the tail over another caller's row, and begins again.
-    PassTail(Place, u32),
+    PassTail { tail: Place, row: u32 },
     /// It moves the tail over its own row, and is done.
-    MoveTail(Place, u32),
+    MoveTail { tail: Place, row: u32 },
     /// It met a chain, and loads the head.
     LoadHead,
 }
@@ -102,7 +102,7 @@ pub enum HelpPoint {
     /// It links the chain behind the tail's row.
     LinkChain(Place),
     /// It moves the tail over one row, and begins again.
-    PassTail(Place, u32),
+    PassTail { tail: Place, row: u32 },
     /// It records the tail behind which the chain is linked.
     RecordTail(Place),
     /// It knows OldTail, and loads the tail.
@@ -110,9 +110,9 @@ pub enum HelpPoint {
     /// It moves the tail over the chain.
     MoveTailOver(Place),
     /// The batch gets so many values; it loads the link of the row, with so many links to go.
-    LoadWalk(u32, u32, u32),
+    LoadWalk { values: u32, row: u32, left: u32 },
     /// The batch gets so many values; it moves the head to the row.
-    MoveHead(u32, u32),
+    MoveHead { values: u32, row: u32 },
 }
 
 /// Where a dequeue is: the step that comes next.
@@ -123,24 +123,24 @@ pub enum DequeuePoint {
     /// It loads the link of the dummy.
     LoadLink(Place),
     /// It loads the tail, after a Single link to the row.
-    LoadTail(Place, u32),
+    LoadTail { dummy: Place, row: u32 },
     /// It loads the tail, after a Chain link to the row.
-    LoadTailOver(Place, u32),
+    LoadTailOver { dummy: Place, row: u32 },
     /// It moves a tail that names the dummy, and begins again.
-    PassTail(Place, u32),
+    PassTail { dummy: Place, row: u32 },
     /// It loads the value of the row behind the dummy.
-    LoadValue(Place, u32),
-    /// It moves the head to that row.
-    MoveHead(Place, u32, u64),
+    LoadValue { dummy: Place, row: u32 },
+    /// It moves the head to that row, which has this value.
+    MoveHead { dummy: Place, row: u32, value: u64 },
 }
 
 /// Where the owner of a batch is, until its announcement is installed: the step that comes next.
 #[derive(Clone, Copy, Debug, PartialEq, Eq, Hash)]
 pub enum BatchPoint {
-    /// It stores the value of its enqueue of this number.
-    StoreValue(u32, u64),
+    /// It stores the value of its enqueue of this number into the row.
+    StoreValue { number: u32, row: u32, value: u64 },
     /// It links its row of this number to the next one.
-    StoreChain(u32),
+    StoreChain { number: u32, row: u32, next: u32 },
     /// It stores a field of its announcement.
     StoreField(AnnField),
     /// It loads the head.
@@ -155,14 +155,14 @@ pub enum AnswerPoint {
     /// It loads OldTail.
     LoadOldTail(Help),
     /// The batch was on so many values; it loads the link of the row, with so many values to go.
-    LoadLink(u64, u32, u32),
+    LoadLink { queued: u64, row: u32, left: u32 },
     /// The batch was on so many values; it loads the value of the row, with so many values to go behind it.
-    LoadValue(u64, u32, u32),
+    LoadValue { queued: u64, row: u32, left: u32 },
 }
 
 /// Where a caller is in its command, with what it has read.
 #[derive(Clone, Copy, Debug, PartialEq, Eq, Hash)]
-pub enum Turn {
+pub enum Point {
     /// No command runs.
     Idle,
     /// An enqueue.
