@@ -2,9 +2,9 @@
 use Rattle.std.proofs.Common.{◌≡◌, ◌⊎◌, ℕ, suc, ◌+◌, ◌-◌, ◌<◌, ◌≤◌, Bool, true, sym, ap, ◌∙◌, arith, Option, Some, None}
 use Rattle.word_rows.specs.declared.place.Place.{Place}
 use Rattle.word_rows.specs.declared.link_word.LinkWord.{LinkWord}
-use Rattle.core_model.specs.declared.turn.Notice.{Notice}
+use Rattle.core_model.specs.declared.point.Notice.{Notice}
 use Rattle.core_model.specs.Functions.{put}
-use Rattle.core_model.specs.Lane.{Lane}
+use Rattle.core_model.specs.LaneSizes.{LaneSizes}
 use Rattle.core_model.specs.Batches.{gets}
 use Rattle.core_model.specs.State.{Caller}
 use Rattle.core_model.specs.Ghost.{Stage, decided}
@@ -12,14 +12,14 @@ use Rattle.core_model.specs.Lawful.{LinksIn, Stages, Told, Pending}
 use Rattle.core_model.proofs.Puts.{put_all, run_same}
 
 -- The list goes on from so many rows to more, TAIL moves on, and HEAD moves where none stands.
-pub stages_moved : (first anns : ℕ) (stage : ℕ → Stage) (ann : Option ℕ) (said : ℕ → Notice) (old_tail : ℕ → Option Place) (path path' : ℕ → ℕ) (chained chained' : ℕ → Bool) (cause : ℕ → ℕ) (head head' total total' shown shown' tail tail' : ℕ)
+pub stages_moved : (first anns : ℕ) (stage : ℕ → Stage) (ann : Option ℕ) (notice : ℕ → Notice) (old_tail : ℕ → Option Place) (path path' : ℕ → ℕ) (chained chained' : ℕ → Bool) (cause : ℕ → ℕ) (head head' total total' shown shown' tail tail' : ℕ)
     → total ≤ total' → head ≤ total → ((i : ℕ) → i ≤ total → path' i ≡ path i) → ((i : ℕ) → i < total → chained' i ≡ chained i) → tail ≤ tail'
     → ((a : ℕ) → ann ≡ Some a → (head' ≡ head) × (shown' ≡ shown))
-    → ((a i : ℕ) → ann ≡ Some a → stage a ≡ decided i → (tail' ≡ i) ⊎ (i + (said a).counts.enqs ≤ tail'))
+    → ((a i : ℕ) → ann ≡ Some a → stage a ≡ decided i → (tail' ≡ i) ⊎ (i + (notice a).counts.enqs ≤ tail'))
     → ((a i : ℕ) → stage a ≡ decided i → old_tail a ≡ None → tail' ≤ i)
-    → (tail' < total' → chained' tail' ≡ true → (a : ℕ) × (stage a ≡ decided tail') × (ann ≡ Some a) × (total' ≤ tail' + (said a).counts.enqs))
-    → Stages first anns stage ann said old_tail path chained cause head total shown tail → Stages first anns stage ann said old_tail path' chained' cause head' total' shown' tail'
-stages_moved first anns stage ann said old_tail path path' chained chained' cause head head' total total' shown shown' tail tail' longer within paths chains later same tails opens lags S = record {
+    → (tail' < total' → chained' tail' ≡ true → (a : ℕ) × (stage a ≡ decided tail') × (ann ≡ Some a) × (total' ≤ tail' + (notice a).counts.enqs))
+    → Stages first anns stage ann notice old_tail path chained cause head total shown tail → Stages first anns stage ann notice old_tail path' chained' cause head' total' shown' tail'
+stages_moved first anns stage ann notice old_tail path path' chained chained' cause head head' total total' shown shown' tail tail' longer within paths chains later same tails opens lags S = record {
   inside = S.inside;
   installed = S.installed;
   old_head = λ a e. let h = (same a e).0 in S.old_head a e ∙ (λ i. record { row = (sym (paths head within) ∙ ap path' (sym h)) i; count = first + sym h i });
@@ -30,7 +30,7 @@ stages_moved first anns stage ann said old_tail path path' chained chained' caus
     some = b.some;
     within = omega arith;
     starts = paths (suc i) (omega arith) ∙ b.starts;
-    ends = paths (i + (said a).counts.enqs) b.within ∙ b.ends;
+    ends = paths (i + (notice a).counts.enqs) b.within ∙ b.ends;
     joined = λ j above below. chains j (omega arith) ∙ b.joined j above below;
     reached = omega arith;
     old_dummy = let d = b.old_dummy in let before = d.2 in (d.0, d.1 ∙ ap (λ (r : ℕ). record { row = r; count = first + d.0 }) (sym (paths d.0 (omega arith))), d.2);
@@ -38,7 +38,7 @@ stages_moved first anns stage ann said old_tail path path' chained chained' caus
   };
   standing = λ a i e f. let t = S.standing a i e f in let h = (same a e).0 in let from = t.from in let inside = t.inside in let s = (same a e).1 in record {
     from = omega arith;
-    shows = s ∙ (t.shows ∙ ap (λ (x : ℕ). gets (said a).counts (i - x)) (sym h));
+    shows = s ∙ (t.shows ∙ ap (λ (x : ℕ). gets (notice a).counts (i - x)) (sym h));
     inside = omega arith;
     tails = tails a i e f;
   };
@@ -49,19 +49,19 @@ stages_moved first anns stage ann said old_tail path path' chained chained' caus
 }
 
 -- one that stands goes on to be told where the values of its rows are left
-pub told_same : (value value' path path' : ℕ → ℕ) (stage : Stage) (said : Notice) (c : ℕ) (k : Caller)
-    → ((i j : ℕ) → stage ≡ decided i → suc i ≤ j → j < suc i + said.counts.enqs → value' (path' j) ≡ value (path j)) → Told value path stage said c k → Told value' path' stage said c k
-told_same value value' path path' stage said c k values t = record {
-  tells = t.tells;
+pub told_same : (value value' path path' : ℕ → ℕ) (stage : Stage) (notice : Notice) (c : ℕ) (k : Caller)
+    → ((i j : ℕ) → stage ≡ decided i → suc i ≤ j → j < suc i + notice.counts.enqs → value' (path' j) ≡ value (path j)) → Told value path stage notice c k → Told value' path' stage notice c k
+told_same value value' path path' stage notice c k values t = record {
+  describes = t.describes;
   helps = t.helps;
-  values = λ i d. t.values i d ∙ run_same (λ j. value (path j)) (λ j. value' (path' j)) (suc i) said.counts.enqs (λ j from below. sym (values i j d from below));
+  values = λ i d. t.values i d ∙ run_same (λ j. value (path j)) (λ j. value' (path' j)) (suc i) notice.counts.enqs (λ j from below. sym (values i j d from below));
 }
 
 -- one that waits goes on to wait where its rows are left
-pub pending_same : (z : Lane) (link link' : ℕ → LinkWord) (value value' : ℕ → ℕ) (spot spot' : ℕ → Option ℕ) (chain : ℕ → ℕ) (landed landed' : Bool) (said : Notice) (c : ℕ) (k : Caller)
-    → ((i : ℕ) → i < said.counts.enqs → link' (chain i) ≡ link (chain i)) → ((i : ℕ) → i < said.counts.enqs → value' (chain i) ≡ value (chain i)) → ((i : ℕ) → i < said.counts.enqs → spot' (chain i) ≡ None) → landed' ≡ landed
-    → Pending z link value spot chain landed said c k → Pending z link' value' spot' chain landed' said c k
-pending_same z link link' value value' spot spot' chain landed landed' said c k links values off same p = record {
+pub pending_same : (z : LaneSizes) (link link' : ℕ → LinkWord) (value value' : ℕ → ℕ) (spot spot' : ℕ → Option ℕ) (chain : ℕ → ℕ) (linearized landed' : Bool) (notice : Notice) (c : ℕ) (k : Caller)
+    → ((i : ℕ) → i < notice.counts.enqs → link' (chain i) ≡ link (chain i)) → ((i : ℕ) → i < notice.counts.enqs → value' (chain i) ≡ value (chain i)) → ((i : ℕ) → i < notice.counts.enqs → spot' (chain i) ≡ None) → landed' ≡ linearized
+    → Pending z link value spot chain linearized notice c k → Pending z link' value' spot' chain landed' notice c k
+pending_same z link link' value value' spot spot' chain linearized landed' notice c k links values off same p = record {
   known = p.known;
   not_yet = same ∙ p.not_yet;
   some = p.some;
@@ -75,7 +75,7 @@ pending_same z link link' value value' spot spot' chain landed landed' said c k 
   apart = p.apart;
   joined = λ i below. links i (omega arith) ∙ p.joined i below;
   last = λ i e. links i (omega arith) ∙ p.last i e;
-  values = p.values ∙ run_same (λ i. value (chain i)) (λ i. value' (chain i)) 0 said.counts.enqs (λ j _ below. sym (values j (omega arith)));
+  values = p.values ∙ run_same (λ i. value (chain i)) (λ i. value' (chain i)) 0 notice.counts.enqs (λ j _ below. sym (values j (omega arith)));
 }
 
 pub links_put : (rows : ℕ) (link : ℕ → LinkWord) (r : ℕ) (x : LinkWord) → LinksIn rows x → ((q : ℕ) → LinksIn rows (link q)) → (q : ℕ) → LinksIn rows (put link r x q)

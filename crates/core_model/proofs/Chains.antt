@@ -19,26 +19,30 @@ use Rattle.word_rows.specs.declared.link_word.LinkWord.{LinkWord}
 use Rattle.word_rows.specs.declared.link_word.LinkWord.TheVariants.{Nil, Single, Chain, Shut}
 use Rattle.word_rows.specs.declared.location.Location.TheVariants.{Link}
 use Rattle.word_rows.specs.declared.content.Content.TheVariants.{OfLink}
-use Rattle.core_model.specs.declared.turn.Back.{Back}
-use Rattle.core_model.specs.declared.turn.Back.TheVariants as back
-use Rattle.core_model.specs.declared.turn.Help.{Help}
-use Rattle.core_model.specs.declared.turn.Turn.{Turn}
-use Rattle.core_model.specs.declared.turn.Turn.TheVariants.{HelpOldHead, HelpFirst, HelpLast, HelpCounts, HelpTail, HelpOldTail, HelpLink, LinkChain, HelpPass, RecordTail, HelpOver, MoveTailOver, HelpWalk, MoveHeadAnn}
+use Rattle.core_model.specs.declared.point.Back.{Back}
+use Rattle.core_model.specs.declared.point.Back.TheVariants as back
+use Rattle.core_model.specs.declared.point.Help.{Help}
+use Rattle.core_model.specs.declared.point.Point.{Point}
+use Rattle.core_model.specs.declared.point.Point.TheVariants as point
+use Rattle.core_model.specs.declared.point.HelpPoint.TheVariants as help
 use Rattle.core_model.specs.Functions.{put, run}
-use Rattle.core_model.specs.Lane.{Lane, item, IsItem}
+use Rattle.core_model.specs.LaneSizes.{LaneSizes, item, IsItem}
 use Rattle.core_model.specs.Batches.{own_ann, owner_of, tally, gets}
-use Rattle.core_model.specs.State.{Memory, Caller, command, State}
-use Rattle.core_model.specs.Step.{own_group, turned, step_with, step_at}
-use Rattle.core_model.specs.Ghost.{Stage, unused, waiting, decided, Ghost, World, places, joint, at, Unlinked, LinkAt, On}
-use Rattle.core_model.specs.Facts.{Landed, Fact, reads, linked, tail_seen, next_is, by_single, stands_at, before_end, is_old_tail, old_tail_is, tail_over, gets_so_many, walks, lands, since, kept, Holds, Each, back_facts, turn_facts, facts}
-use Rattle.core_model.specs.Lawful.{shown_queue, head_word, Listed, Headed, Tailed, Bound, Standing, Announced, IsOwn, HelpsOwn, Told, IsTold, Pending, Unmade, OwnGroups, Allowed, Lawful}
+use Rattle.core_model.specs.State.{Memory, Caller, command, State, own_group}
+use Rattle.core_model.specs.Fact.{Fact, reads, linked, tail_seen, before_end, takes_effect, since, kept}
+use Rattle.core_model.specs.Help.{back_facts}
+use Rattle.core_model.specs.Step.{stepped, step_with, step_at}
+use Rattle.core_model.specs.Facts.{Linearized, Holds, Each, AtPoint, Knows}
+use Rattle.core_model.specs.Ghost.{Stage, unused, waiting, decided, Ghost, World, positions, joint, at, Unlinked, LinkAt, On}
+use Rattle.core_model.specs.Lawful.{shown_queue, head_word, Listed, Headed, Tailed, Bound, Standing, Announced, IsOwn, HelpsOwn, Told, IsTold, Pending, Unmade, OwnGroups, OfCaller, Lawful}
 use Rattle.core_model.proofs.Puts.{put_here, put_else, put_all, run_same}
 use Rattle.core_model.proofs.Groups.{length-operations-push, mine-push_other}
 use Rattle.core_model.proofs.Runs.{length-run, run_moved, run_parted, take-run, drop-run, then, then_old, then_new, placed, placed_else, placed_here}
-use Rattle.core_model.proofs.Stays.{world, unused_waits, unused_decides, waits_decides, one_place, one_some, some_none, Grows, owns_stays, shared_stays, Shared, all_stay}
-use Rattle.core_model.proofs.Keeps.{kept_turned, known, quiet, changed, joins_proper, joins_mine}
+use Rattle.core_model.specs.Help as helping
+use Rattle.core_model.proofs.Stable.{world, unused_waits, unused_decides, waits_decides, one_position, one_some, some_none, Rely, owns_stable, shared_stable, Shared, knows_stable, helping_shared, all_shared_stable}
+use Rattle.core_model.proofs.Preserves.{kept_stepped, known, stutters, changed, joins_proper, joins_mine}
 use Rattle.core_model.proofs.Announces.{links_put}
-use Rattle.core_model.proofs.Loads.{is_last}
+use Rattle.core_model.proofs.Lookups.{is_last}
 
 differ : true ≡ false → ⊥
 differ e = cc e
@@ -47,8 +51,8 @@ differ e = cc e
 pub covered : (ops : List Op) → dequeue_count ops ≤ enqueue_count ops + excess_of ops
 covered ops = subst (λ (some : List Op). dequeue_count some ≤ enqueue_count some + excess_of ops) (take_all (length ops) ops (le_refl _)) ((IsExcess-excess_of ops).never_passed (length ops))
 
-module _ (z : Lane) (s : State) (L : Lawful z s) (c : ℕ) (h : Help) (p : Place) (reading : Holds z (world s L.ghost) c (reads 4 h)) (on : Holds z (world s L.ghost) c (linked p)) (seen : Holds z (world s L.ghost) c (tail_seen p))
-    (ends : Holds z (world s L.ghost) c (before_end h.ann p)) (nil : s.memory.link p.row ≡ Nil) (is : (s.callers c).turn ≡ LinkChain h p) where
+module _ (z : LaneSizes) (s : State) (L : Lawful z s) (c : ℕ) (h : Help) (p : Place) (reading : Holds z (world s L.ghost) c (reads 4 h)) (on : Holds z (world s L.ghost) c (linked p)) (seen : Holds z (world s L.ghost) c (tail_seen p))
+    (ends : Holds z (world s L.ghost) c (before_end h.ann p)) (nil : s.memory.link p.row ≡ Nil) (is : (s.callers c).point ≡ point.Help h (help.LinkChain p)) where
   abbrev G : Ghost
   G = L.ghost
 
@@ -70,10 +74,10 @@ module _ (z : Lane) (s : State) (L : Lawful z s) (c : ℕ) (h : Help) (p : Place
   e = L.ghost.head + L.ghost.rest
 
   abbrev n : ℕ
-  n = places L.ghost
+  n = positions L.ghost
 
   abbrev enqs : ℕ
-  enqs = (s.memory.said h.ann).counts.enqs
+  enqs = (s.memory.notice h.ann).counts.enqs
 
   end_is : on.0 ≡ e
   end_is = is_last z s L c p on nil
@@ -82,7 +86,7 @@ module _ (z : Lane) (s : State) (L : Lawful z s) (c : ℕ) (h : Help) (p : Place
   waits : G.stage a ≡ waiting
   waits = by (G.stage a) refl where
     by : (x : Stage) → G.stage a ≡ x → G.stage a ≡ waiting
-    by unused u = absurd (reading.0 u)
+    by unused u = absurd (reading.installed u)
     by waiting w = w
     by (decided j) d = let more = (ends.1 on.0 on.1).1 j d in let last = end_is in absurd (omega arith)
 
@@ -92,10 +96,10 @@ module _ (z : Lane) (s : State) (L : Lawful z s) (c : ℕ) (h : Help) (p : Place
   bare : G.shown ≡ 0
   bare = (L.announced.waits a waits).1
 
-  P : Pending z s.memory.link s.memory.value G.spot G.chain (G.landed o) (s.memory.said a) o ko
+  P : Pending z s.memory.link s.memory.value G.spot G.chain (G.linearized o) (s.memory.notice a) o ko
   P = L.pending a waits
 
-  T : Told s.memory.value G.path (G.stage a) (s.memory.said a) o ko
+  T : Told s.memory.value G.path (G.stage a) (s.memory.notice a) o ko
   T = L.told a at_head
 
   alone : (x : ℕ) → G.ann ≡ Some x → x ≡ a
@@ -104,24 +108,24 @@ module _ (z : Lane) (s : State) (L : Lawful z s) (c : ℕ) (h : Help) (p : Place
   only : (x : ℕ) → G.stage x ≡ waiting → x ≡ a
   only x w = alone x (L.announced.waits x w).0
 
-  first_is : (s.memory.said a).first ≡ h.first
-  first_is = reading.3 (omega arith)
+  first_is : (s.memory.notice a).first ≡ h.first
+  first_is = reading.first (omega arith)
 
   abbrev path' : ℕ → ℕ
-  path' = then (places L.ghost) L.ghost.path L.ghost.chain
+  path' = then (positions L.ghost) L.ghost.path L.ghost.chain
 
   abbrev chained' : ℕ → Bool
-  chained' = then (places L.ghost) (put L.ghost.chained (L.ghost.head + L.ghost.rest) true) (λ _. false)
+  chained' = then (positions L.ghost) (put L.ghost.chained (L.ghost.head + L.ghost.rest) true) (λ _. false)
 
   abbrev spot' : ℕ → Option ℕ
-  spot' = placed L.ghost.chain (places L.ghost) enqs L.ghost.spot
+  spot' = placed L.ghost.chain (positions L.ghost) enqs L.ghost.spot
 
   abbrev link' : ℕ → LinkWord
   link' = put s.memory.link p.row (Chain h.first)
 
   -- how many values the batch gets, and how many rows are left behind the shown head
   abbrev m : ℕ
-  m = gets (s.memory.said h.ann).counts L.ghost.rest
+  m = gets (s.memory.notice h.ann).counts L.ghost.rest
 
   abbrev left : ℕ
   left = L.ghost.rest + enqs - m
@@ -134,7 +138,7 @@ module _ (z : Lane) (s : State) (L : Lawful z s) (c : ℕ) (h : Help) (p : Place
     rest = L.ghost.rest + enqs;
     shown = m;
     queued = left;
-    landed = put L.ghost.landed o true;
+    linearized = put L.ghost.linearized o true;
     stage = put L.ghost.stage h.ann (decided e);
     cause = put L.ghost.cause e h.ann;
   }
@@ -146,13 +150,13 @@ module _ (z : Lane) (s : State) (L : Lawful z s) (c : ℕ) (h : Help) (p : Place
   W = record { memory = memory'; history = s.history ++ own ∷ []; ghost = G' }
 
   abbrev k' : Caller
-  k' = turned (s.callers c) (HelpTail h)
+  k' = stepped (s.callers c) (point.Help h help.LoadTail)
 
-  counts_are : tally (s.memory.said a).counts ≡ counts_of ko.ops
-  counts_are = ap tally T.tells.0
+  counts_are : tally (s.memory.notice a).counts ≡ counts_of ko.ops
+  counts_are = ap tally T.describes.0
 
   within_all : m ≤ G.rest + enqs
-  within_all = let cover = covered ko.ops in let k = T.tells.0 in let es = ap (λ (y : BatchCounts). y.enqs) k in let ds = ap (λ (y : BatchCounts). y.deqs) k in let xs = ap (λ (y : BatchCounts). y.excess) k in omega arith
+  within_all = let cover = covered ko.ops in let k = T.describes.0 in let es = ap (λ (y : BatchCounts). y.enqs) k in let ds = ap (λ (y : BatchCounts). y.deqs) k in let xs = ap (λ (y : BatchCounts). y.excess) k in omega arith
 
   row_is : p.row ≡ G.path e
   row_is = sym on.2.2 ∙ ap G.path end_is
@@ -164,7 +168,7 @@ module _ (z : Lane) (s : State) (L : Lawful z s) (c : ℕ) (h : Help) (p : Place
   spot_is = on.2.1 ∙ ap Some end_is
 
   tail_is : G.tail ≡ e
-  tail_is = let within = L.tail.within in let late = seen in let here = count_is in omega arith
+  tail_is = let within = L.list.tail.within in let late = seen in let here = count_is in omega arith
 
   -- a row at another place, or at none
   not_end : (r i : ℕ) → G.spot r ≡ Some i → i ≢ e → r ≢ p.row
@@ -208,13 +212,13 @@ module _ (z : Lane) (s : State) (L : Lawful z s) (c : ℕ) (h : Help) (p : Place
       ∙ sym (λ y. joint (old_chained i (omega arith) apart y) (old_path (suc i) below y))
 
   -- a fact of each place, old and new
-  each_place : (Q : ℕ → ℕ → Type 0) (from : ℕ) → ((i : ℕ) → from ≤ i → i < n → Q i (G.path i)) → ((i : ℕ) → i < enqs → Q (n + i) (G.chain i)) → (i : ℕ) → from ≤ i → i < places G' → Q i (path' i)
+  each_place : (Q : ℕ → ℕ → Type 0) (from : ℕ) → ((i : ℕ) → from ≤ i → i < n → Q i (G.path i)) → ((i : ℕ) → i < enqs → Q (n + i) (G.chain i)) → (i : ℕ) → from ≤ i → i < positions G' → Q i (path' i)
   each_place Q from old new i above below = dite (dec_le (suc i) n) (λ inside. subst (Q i) (sym (old_path i inside)) (old i above inside))
       (λ beyond. let at_i : i ≡ n + (i - n) = omega arith in subst (Q i) (sym (new_path i (i - n) at_i)) (subst (λ (j : ℕ). Q j (G.chain (i - n))) (sym at_i) (new (i - n) (omega arith))))
 
   joined' : (i : ℕ) → G.head ≤ i → i < G.head + (G.rest + enqs) → link' (path' i) ≡ joint (chained' i) (path' (suc i))
   joined' i from below = dite (dec_le (suc i) e)
-      (λ inside. old_link i (path' i) (omega arith) (λ same. omega arith) (ap G.spot (old_path i (omega arith)) ∙ L.rows.spots i from (omega arith)) (ap s.memory.link (old_path i (omega arith)) ∙ L.rows.joined i from inside))
+      (λ inside. old_link i (path' i) (omega arith) (λ same. omega arith) (ap G.spot (old_path i (omega arith)) ∙ L.list.rows.spots i from (omega arith)) (ap s.memory.link (old_path i (omega arith)) ∙ L.list.rows.joined i from inside))
       (λ late. dite (ℕ_discrete i e)
       (λ same. end_link i (path' i) same (old_path i (omega arith) ∙ (ap G.path same ∙ sym row_is)))
       (λ apart. let at_i : i ≡ n + (i - n) = omega arith in
@@ -226,13 +230,13 @@ module _ (z : Lane) (s : State) (L : Lawful z s) (c : ℕ) (h : Help) (p : Place
     joined = joined';
     last = let some = P.some in let last : suc (enqs - 1) ≡ enqs = omega arith in
         ap link' (new_path (G.head + (G.rest + enqs)) (enqs - 1) (omega arith)) ∙ (own_link (G.chain (enqs - 1)) (P.unlinked (enqs - 1) (omega arith)) ∙ P.last (enqs - 1) last);
-    spots = each_place (λ i r. spot' r ≡ Some i) G.head (λ i from below. old_spot (G.path i) i (L.rows.spots i from below)) (placed_here G.chain n enqs G.spot P.apart);
-    inside = λ i below. each_place (λ i r. r < z.rows) 0 (λ i _ below. L.rows.inside i below) P.inside i (omega arith) below;
+    spots = each_place (λ i r. spot' r ≡ Some i) G.head (λ i from below. old_spot (G.path i) i (L.list.rows.spots i from below)) (placed_here G.chain n enqs G.spot P.apart);
+    inside = λ i below. each_place (λ i r. r < z.rows) 0 (λ i _ below. L.list.rows.inside i below) P.inside i (omega arith) below;
   }
 
   headed' : Headed z.first s.memory.head path' G.head (G.rest + enqs) G.ann m left
   headed' = record {
-    named = L.head.named ∙ named G.ann;
+    named = L.list.head.named ∙ named G.ann;
     none = λ no. absurd (some_none (sym at_head ∙ no));
     fits = let l = within_all in omega arith;
   } where
@@ -241,9 +245,9 @@ module _ (z : Lane) (s : State) (L : Lawful z s) (c : ℕ) (h : Help) (p : Place
     named (Some x) = refl
 
   tailed' : Tailed z.first s.memory.tail path' chained' G.head (G.rest + enqs) G.tail
-  tailed' = let t = tail_is in let from = L.tail.after_head in record {
-    named = L.tail.named ∙ ap (λ (r : ℕ). record { row = r; count = z.first + G.tail }) (sym (old_path G.tail (omega arith)));
-    after_head = L.tail.after_head;
+  tailed' = let t = tail_is in let from = L.list.tail.after_head in record {
+    named = L.list.tail.named ∙ ap (λ (r : ℕ). record { row = r; count = z.first + G.tail }) (sym (old_path G.tail (omega arith)));
+    after_head = L.list.tail.after_head;
     within = omega arith;
     lags = λ _ single. absurd (differ (sym (end_chained G.tail tail_is) ∙ single));
   }
@@ -253,7 +257,7 @@ module _ (z : Lane) (s : State) (L : Lawful z s) (c : ℕ) (h : Help) (p : Place
   v' i = s.memory.value (path' i)
 
   queue_was : last_queue s.history ≡ run (λ i. s.memory.value (G.path i)) (suc G.head) G.rest
-  queue_was = let none = bare in let fits = L.head.fits in L.queue
+  queue_was = let none = bare in let fits = L.list.head.fits in L.queue
       ∙ (λ i. run (λ j. s.memory.value (G.path j)) (suc ((let f : G.head + G.shown ≡ G.head = omega arith in f) i)) ((let f : G.queued ≡ G.rest = omega arith in f) i))
 
   length_queue : length (last_queue s.history) ≡ G.rest
@@ -265,14 +269,14 @@ module _ (z : Lane) (s : State) (L : Lawful z s) (c : ℕ) (h : Help) (p : Place
       ++ run_moved v' (λ j. s.memory.value (G.chain j)) (suc G.head + G.rest) 0 enqs (λ x below. ap s.memory.value (new_path (suc G.head + G.rest + x) x (omega arith)) ∙ ap (λ (y : ℕ). s.memory.value (G.chain y)) (let f : x ≡ 0 + x = omega arith in f)) i))
 
   queue' : last_queue (s.history ++ own ∷ []) ≡ shown_queue s.memory.value G'
-  queue' = last_queue-push s.history own ∙ (queue_from-counted (tally (s.memory.said a).counts) ko.ops (last_queue s.history) G.rest counts_are length_queue
+  queue' = last_queue-push s.history own ∙ (queue_from-counted (tally (s.memory.notice a).counts) ko.ops (last_queue s.history) G.rest counts_are length_queue
       ∙ (ap (drop m) all_values ∙ (drop-run v' (suc G.head) (G.rest + enqs) m within_all ∙ ap (λ (y : ℕ). run v' y left) (let f : suc G.head + m ≡ suc (G.head + m) = omega arith in f))))
 
   some_ops : ko.ops ≢ []
-  some_ops none = let some = P.some in let k = ap (λ (y : BatchCounts). y.enqs) T.tells.0 ∙ ap enqueue_count none in absurd (omega arith)
+  some_ops none = let some = P.some in let k = ap (λ (y : BatchCounts). y.enqs) T.describes.0 ∙ ap enqueue_count none in absurd (omega arith)
 
   counts' : G.head + (G.rest + enqs) ≤ length (operations (s.history ++ own ∷ []))
-  counts' = let made = L.counts in let all = length-operations-push s.history own in let k = ap (λ (y : BatchCounts). y.enqs) T.tells.0 in let parts = count-ops ko.ops in omega arith
+  counts' = let made = L.list.counts in let all = length-operations-push s.history own in let k = ap (λ (y : BatchCounts). y.enqs) T.describes.0 in let parts = count-ops ko.ops in omega arith
 
   -- stages after the step
   abbrev stage' : ℕ → Stage
@@ -295,9 +299,9 @@ module _ (z : Lane) (s : State) (L : Lawful z s) (c : ℕ) (h : Help) (p : Place
   Decides x i = ((x ≡ a) × (i ≡ e)) ⊎ ((x ≢ a) × (G.stage x ≡ decided i))
 
   which : (x i : ℕ) → stage' x ≡ decided i → Decides x i
-  which x i d = dite (ℕ_discrete x a) (λ same. inl (same, one_place d (ap stage' same ∙ decided_here))) (λ apart. inr (apart, sym (stage_else x apart) ∙ d))
+  which x i d = dite (ℕ_discrete x a) (λ same. inl (same, one_position d (ap stage' same ∙ decided_here))) (λ apart. inr (apart, sym (stage_else x apart) ∙ d))
 
-  bound_here : Bound z.first path' chained' (put G.cause e a) (G.head + (G.rest + enqs)) G.tail (s.memory.said a) a e
+  bound_here : Bound z.first path' chained' (put G.cause e a) (G.head + (G.rest + enqs)) G.tail (s.memory.notice a) a e
   bound_here = let some = P.some in let t = tail_is in record {
     causes = put_here G.cause e a;
     by_chain = end_chained e refl;
@@ -308,17 +312,17 @@ module _ (z : Lane) (s : State) (L : Lawful z s) (c : ℕ) (h : Help) (p : Place
     joined = λ j above below. new_chained j (j - n) (omega arith);
     reached = omega arith;
     old_dummy = (G.head, L.announced.old_head a at_head ∙ ap (λ (r : ℕ). record { row = r; count = z.first + G.head }) (sym (old_path G.head (omega arith))), omega arith);
-    covered = let cover = covered ko.ops in let k = T.tells.0 in let es = ap (λ (y : BatchCounts). y.enqs) k in let ds = ap (λ (y : BatchCounts). y.deqs) k in let xs = ap (λ (y : BatchCounts). y.excess) k in omega arith;
+    covered = let cover = covered ko.ops in let k = T.describes.0 in let es = ap (λ (y : BatchCounts). y.enqs) k in let ds = ap (λ (y : BatchCounts). y.deqs) k in let xs = ap (λ (y : BatchCounts). y.excess) k in omega arith;
   }
 
-  bound_old : (x i : ℕ) → G.stage x ≡ decided i → Bound z.first path' chained' (put G.cause e a) (G.head + (G.rest + enqs)) G.tail (s.memory.said x) x i
+  bound_old : (x i : ℕ) → G.stage x ≡ decided i → Bound z.first path' chained' (put G.cause e a) (G.head + (G.rest + enqs)) G.tail (s.memory.notice x) x i
   bound_old x i d = let b = L.announced.bound x i d in let some = b.some in let within = b.within in record {
     causes = put_else G.cause e a i (λ same. omega arith) ∙ b.causes;
     by_chain = old_chained i (omega arith) (λ same. omega arith) ∙ b.by_chain;
     some = b.some;
     within = omega arith;
     starts = old_path (suc i) (omega arith) ∙ b.starts;
-    ends = old_path (i + (s.memory.said x).counts.enqs) (omega arith) ∙ b.ends;
+    ends = old_path (i + (s.memory.notice x).counts.enqs) (omega arith) ∙ b.ends;
     joined = λ j above below. old_chained j (omega arith) (λ same. omega arith) ∙ b.joined j above below;
     reached = b.reached;
     old_dummy = let dm = b.old_dummy in let before = dm.2 in (dm.0, dm.1 ∙ ap (λ (r : ℕ). record { row = r; count = z.first + dm.0 }) (sym (old_path dm.0 (omega arith))), dm.2);
@@ -328,10 +332,10 @@ module _ (z : Lane) (s : State) (L : Lawful z s) (c : ℕ) (h : Help) (p : Place
   rest_is : e - G.head ≡ G.rest
   rest_is = omega arith
 
-  standing_here : Standing G.head m G.tail (s.memory.said a) e
+  standing_here : Standing G.head m G.tail (s.memory.notice a) e
   standing_here = let l = within_all in record {
     from = omega arith;
-    shows = ap (gets (s.memory.said a).counts) (sym rest_is);
+    shows = ap (gets (s.memory.notice a).counts) (sym rest_is);
     inside = omega arith;
     tails = inl tail_is;
   }
@@ -343,14 +347,14 @@ module _ (z : Lane) (s : State) (L : Lawful z s) (c : ℕ) (h : Help) (p : Place
     old_head = λ x at_x. A.old_head x at_x ∙ ap (λ (r : ℕ). record { row = r; count = z.first + G.head }) (sym (old_path G.head (omega arith)));
     waits = λ x w. absurd (none_waits x w);
     bound = λ x i d. bound_by x i (which x i d);
-    standing = λ x i at_x d. subst (λ (y : ℕ × ℕ). Standing G.head m G.tail (s.memory.said y.0) y.1) (λ k. (sym (alone x at_x) k, one_place decided_here (ap stage' (sym (alone x at_x)) ∙ d) k)) standing_here;
+    standing = λ x i at_x d. subst (λ (y : ℕ × ℕ). Standing G.head m G.tail (s.memory.notice y.0) y.1) (λ k. (sym (alone x at_x) k, one_position decided_here (ap stage' (sym (alone x at_x)) ∙ d) k)) standing_here;
     unknown = λ x w. absurd (none_waits x w);
     recorded = λ x i q d known_tail. recorded_by x i q (which x i d) known_tail;
     unrecorded = λ x i d none. unrecorded_by x i (which x i d) none;
     lags = λ _ _. (a, decided_here ∙ ap decided (sym tail_is), at_head, let t = tail_is in omega arith);
   } where
-    bound_by : (x i : ℕ) → Decides x i → Bound z.first path' chained' (put G.cause e a) (G.head + (G.rest + enqs)) G.tail (s.memory.said x) x i
-    bound_by x i (inl (same, here)) = subst (λ (y : ℕ × ℕ). Bound z.first path' chained' (put G.cause e a) (G.head + (G.rest + enqs)) G.tail (s.memory.said y.0) y.0 y.1) (λ k. (sym same k, sym here k)) bound_here
+    bound_by : (x i : ℕ) → Decides x i → Bound z.first path' chained' (put G.cause e a) (G.head + (G.rest + enqs)) G.tail (s.memory.notice x) x i
+    bound_by x i (inl (same, here)) = subst (λ (y : ℕ × ℕ). Bound z.first path' chained' (put G.cause e a) (G.head + (G.rest + enqs)) G.tail (s.memory.notice y.0) y.0 y.1) (λ k. (sym same k, sym here k)) bound_here
     bound_by x i (inr (_, d)) = bound_old x i d
 
     recorded_by : (x i : ℕ) (q : Place) → Decides x i → s.memory.old_tail x ≡ Some q → q ≡ at z.first path' i
@@ -372,8 +376,8 @@ module _ (z : Lane) (s : State) (L : Lawful z s) (c : ℕ) (h : Help) (p : Place
         (λ apart. old_link i r (omega arith) apart o_n.1 (o_n.3.1 (omega arith))),
   )
 
-  grows : Grows z Touch (world s G) W
-  grows = let some = P.some in record {
+  rely : Rely z Touch (world s G) W
+  rely = let some = P.some in record {
     longer = omega arith;
     heads = le_refl _;
     tails = le_refl _;
@@ -389,31 +393,31 @@ module _ (z : Lane) (s : State) (L : Lawful z s) (c : ℕ) (h : Help) (p : Place
       waited = λ x w _. absurd (none_waits x w);
       done = λ x i d. stage_else x (not_a x i d) ∙ d;
       decides = λ x i _ d. new_or_old x i (which x i d);
-      said_same = λ _ _. refl;
+      notice_same = λ _ _. refl;
       old_same = λ _ _ _ y. y;
       stood = λ x at_x. inl (at_x, refl, λ i d. absurd (not_a x i d (alone x at_x)));
     };
     more = (own ∷ [], refl);
   } where
-    new_or_old : (x i : ℕ) → Decides x i → (G.stage x ≡ decided i) ⊎ ((places G < places G') × (G.landed (owner_of z x) ≡ false) × (put G.landed o true (owner_of z x) ≡ true))
-    new_or_old x i (inl (same, _)) = let some = P.some in inr (omega arith, ap (λ (y : ℕ). G.landed (owner_of z y)) same ∙ P.not_yet, ap (λ (y : ℕ). put G.landed o true (owner_of z y)) same ∙ put_here G.landed o true)
+    new_or_old : (x i : ℕ) → Decides x i → (G.stage x ≡ decided i) ⊎ ((positions G < positions G') × (G.linearized (owner_of z x) ≡ false) × (put G.linearized o true (owner_of z x) ≡ true))
+    new_or_old x i (inl (same, _)) = let some = P.some in inr (omega arith, ap (λ (y : ℕ). G.linearized (owner_of z y)) same ∙ P.not_yet, ap (λ (y : ℕ). put G.linearized o true (owner_of z y)) same ∙ put_here G.linearized o true)
     new_or_old x i (inr (_, d)) = inl d
 
   -- the owner's batch stands in the history, and its rows are there
-  landed_here : Landed z W a e ko.started_at own
-  landed_here = record {
+  linearized_here : Linearized z W a e ko.started_at own
+  linearized_here = record {
     pre = s.history;
     post = [];
     stands = sym (append-nil (s.history ++ own ∷ []));
-    since_start = (L.kept_facts o).1.0;
-    counts = T.tells.0;
+    since_start = (L.callers o).knows.started;
+    counts = T.describes.0;
     dummy = G.head;
     old_head = announced'.old_head a at_head;
     before = omega arith;
     length_queue = length_queue ∙ sym rest_is;
-    values = subst (λ (y : ℕ). take (gets (s.memory.said a).counts y) (values_from (last_queue s.history) ko.ops) ≡ run v' (suc G.head) (gets (s.memory.said a).counts y)) (sym rest_is)
+    values = subst (λ (y : ℕ). take (gets (s.memory.notice a).counts y) (values_from (last_queue s.history) ko.ops) ≡ run v' (suc G.head) (gets (s.memory.notice a).counts y)) (sym rest_is)
         (ap (take m) all_values ∙ take-run v' (suc G.head) (G.rest + enqs) m within_all);
-    rows = λ x le. on_list x (subst (λ (y : ℕ). x ≤ gets (s.memory.said a).counts y) rest_is le);
+    rows = λ x le. on_list x (subst (λ (y : ℕ). x ≤ gets (s.memory.notice a).counts y) rest_is le);
   } where
     on_list : (x : ℕ) → x ≤ m → On W (G.head + x) (path' (G.head + x))
     on_list x le = let all = within_all in (
@@ -424,97 +428,96 @@ module _ (z : Lane) (s : State) (L : Lawful z s) (c : ℕ) (h : Help) (p : Place
     )
 
   -- What a helper of the own announcement knows stays; and where that is this one, its group stands in the history.
-  sh : (f : Fact) → Shared z Touch (world s G) W grows o f → Holds z (world s G) o f → Holds z W o f
-  sh f shared x = shared_stays z Touch (world s G) W grows o f shared x
+  sh : (f : Fact) → Shared f → Holds z (world s G) o f → Holds z W o f
+  sh f shared x = shared_stable z Touch (world s G) W rely o f shared x
 
-  own_lands : (x : ℕ) → Holds z (world s G) o (lands x ko.started_at own) → Holds z W o (lands x ko.started_at own)
-  own_lands x f = subst (λ (y : ℕ). Holds z W o (lands y ko.started_at own)) (f.3 a at_head refl)
-      ((λ u. unused_decides u decided_here), refl, (λ i d. (put_here G.landed o true, subst (λ (y : ℕ). Landed z W a y ko.started_at own) (one_place decided_here d) landed_here)), λ y at_y _. alone y at_y)
+  own_takes_effect : (x : ℕ) → Holds z (world s G) o (takes_effect x ko.started_at own) → Holds z W o (takes_effect x ko.started_at own)
+  own_takes_effect x f = subst (λ (y : ℕ). Holds z W o (takes_effect y ko.started_at own)) (f.3 a at_head refl)
+      ((λ u. unused_decides u decided_here), refl, (λ i d. (put_here G.linearized o true, subst (λ (y : ℕ). Linearized z W a y ko.started_at own) (one_position decided_here d) linearized_here)), λ y at_y _. alone y at_y)
 
-  back_own : (x : ℕ) (b : Back) → IsOwn b → Each z (world s G) o (back_facts z o (command ko) x b) → Each z W o (back_facts z o (command ko) x b)
-  back_own x back.Own _ f = (own_lands x f.0, tt)
+  back_own : (x : ℕ) (b : Back) → IsOwn b → Each z (world s G) o (back_facts o (command ko) x b) → Each z W o (back_facts o (command ko) x b)
+  back_own x back.Own _ f = (own_takes_effect x f.0, tt)
   back_own x (back.Enqueue i) bad f = absurd bad
   back_own x back.Dequeue bad f = absurd bad
   back_own x (back.Batch d) bad f = absurd bad
 
-  helps_stay : (t : Turn) → HelpsOwn t → Each z (world s G) o (turn_facts z o ko t) → Each z W o (turn_facts z o ko t)
-  helps_stay (HelpOldHead x) own' f = (sh (reads 0 x) tt f.0, back_own x.ann x.back own' f.1)
-  helps_stay (HelpFirst x) own' f = (sh (reads 1 x) tt f.0, back_own x.ann x.back own' f.1)
-  helps_stay (HelpLast x) own' f = (sh (reads 2 x) tt f.0, back_own x.ann x.back own' f.1)
-  helps_stay (HelpCounts x) own' f = (sh (reads 3 x) tt f.0, back_own x.ann x.back own' f.1)
-  helps_stay (HelpTail x) own' f = (sh (reads 4 x) tt f.0, back_own x.ann x.back own' f.1)
-  helps_stay (HelpOldTail x q) own' f = (sh (reads 4 x) tt f.0, (sh (linked q) tt f.1.0, (sh (tail_seen q) tt f.1.1.0, (sh (stands_at x.ann q) tt f.1.1.1.0, back_own x.ann x.back own' f.1.1.1.1))))
-  helps_stay (HelpLink x q) own' f = (sh (reads 4 x) tt f.0, (sh (linked q) tt f.1.0, (sh (tail_seen q) tt f.1.1.0, (sh (stands_at x.ann q) tt f.1.1.1.0, (sh (before_end x.ann q) tt f.1.1.1.1.0, back_own x.ann x.back own' f.1.1.1.1.1)))))
-  helps_stay (LinkChain x q) own' f = (sh (reads 4 x) tt f.0, (sh (linked q) tt f.1.0, (sh (tail_seen q) tt f.1.1.0, (sh (stands_at x.ann q) tt f.1.1.1.0, (sh (before_end x.ann q) tt f.1.1.1.1.0, back_own x.ann x.back own' f.1.1.1.1.1)))))
-  helps_stay (HelpPass x q r) own' f = (sh (reads 4 x) tt f.0, (sh (next_is q r) tt f.1.0, (sh (by_single q) tt f.1.1.0, back_own x.ann x.back own' f.1.1.1)))
-  helps_stay (RecordTail x q) own' f = (sh (reads 4 x) tt f.0, (sh (is_old_tail x.ann q) tt f.1.0, back_own x.ann x.back own' f.1.1))
-  helps_stay (HelpOver x q) own' f = (sh (reads 4 x) tt f.0, (sh (old_tail_is x.ann q) tt f.1.0, back_own x.ann x.back own' f.1.1))
-  helps_stay (MoveTailOver x q) own' f = (sh (reads 4 x) tt f.0, (sh (old_tail_is x.ann q) tt f.1.0, back_own x.ann x.back own' f.1.1))
-  helps_stay (HelpWalk x g r l) own' f = (sh (reads 4 x) tt f.0, (sh (walks x.ann r (suc l)) tt f.1.0, (sh (gets_so_many x g) tt f.1.1.0, (sh (tail_over x.ann) tt f.1.1.1.0, back_own x.ann x.back own' f.1.1.1.1))))
-  helps_stay (MoveHeadAnn x g r) own' f = (sh (reads 4 x) tt f.0, (sh (walks x.ann r 0) tt f.1.0, (sh (gets_so_many x g) tt f.1.1.0, (sh (tail_over x.ann) tt f.1.1.1.0, back_own x.ann x.back own' f.1.1.1.1))))
-  helps_stay _ bad f = absurd bad
+  helps_stable : (t : Point) → HelpsOwn t → AtPoint z (world s G) o ko t → AtPoint z W o ko t
+  helps_stable (point.Help x p) own' f = record {
+    call = (sh (reads (helping.loaded p) x) tt f.call.0, back_own x.ann x.back own' f.call.1);
+    here = all_shared_stable z Touch (world s G) W rely o (helping.knows x p) (helping_shared x p) f.here;
+  }
+  helps_stable _ bad f = absurd bad
 
-  owner_knows : Each z W o (facts z o ko)
-  owner_knows = let f = L.kept_facts o in (
-    (λ i from below known_caller. let q = f.0 i from below known_caller in owns_stays z Touch (world s G) W grows o (item z o i) (λ t. P.taken t.0 i t.1 from (sym t.2)) q),
-    (sh (since ko.started_at) tt f.1.0, (sh (kept ko) tt f.1.1.0, helps_stay ko.turn T.helps f.1.1.1)),
-  )
+  owner_knows : Knows z W o ko
+  owner_knows = let f = (L.callers o).knows in record {
+    unused = λ i from below known_caller. owns_stable z Touch (world s G) W rely o (item z o i) (λ t. P.taken t.0 i t.1 from (sym t.2)) (f.unused i from below known_caller);
+    started = sh (since ko.started_at) tt f.started;
+    last = sh (kept ko) tt f.last;
+    at_point = helps_stable ko.point T.helps f.at_point;
+  }
 
-  all_know : (d : ℕ) → Each z W d (facts z d (s.callers d))
-  all_know d = dite (ℕ_discrete d o) (λ same. subst (λ (y : ℕ). Each z W y (facts z y (s.callers y))) (sym same) owner_knows)
-      (λ apart. all_stay z Touch (world s G) W grows d (λ r home t. apart (sym home ∙ (ap z.home (sym t.2) ∙ P.homes t.0 t.1))) (put_else G.landed o true d apart)
-      (λ x _ u. (stage_else x (λ same. unused_waits u (ap G.stage same ∙ waits)) ∙ u, refl, refl)) (facts z d (s.callers d)) (L.kept_facts d))
+  all_know : (d : ℕ) → Knows z W d (s.callers d)
+  all_know d = dite (ℕ_discrete d o) (λ same. subst (λ (y : ℕ). Knows z W y (s.callers y)) (sym same) owner_knows)
+      (λ apart. knows_stable z Touch (world s G) W rely d (λ r home t. apart (sym home ∙ (ap z.home (sym t.2) ∙ P.homes t.0 t.1))) (put_else G.linearized o true d apart)
+      (λ x _ u. (stage_else x (λ same. unused_waits u (ap G.stage same ∙ waits)) ∙ u, refl, refl)) (s.callers d) (L.callers d).knows)
 
-  groups' : (d : ℕ) → OwnGroups d (s.history ++ own ∷ []) (s.callers d) (put G.landed o true d)
+  groups' : (d : ℕ) → OwnGroups d (s.history ++ own ∷ []) (s.callers d) (put G.linearized o true d)
   groups' d = dite (ℕ_discrete d o)
-      (λ same. subst (λ (y : ℕ). OwnGroups y (s.history ++ own ∷ []) (s.callers y) (put G.landed o true y)) (sym same)
-      (joins_mine z s L o P.not_yet ∙ ap (λ (b : Bool). ko.mine ++ cond b (own ∷ []) []) (sym (put_here G.landed o true))))
-      (λ apart. mine-push_other s.history own d apart ∙ (L.own_groups d ∙ ap (λ (b : Bool). (s.callers d).mine ++ cond b (own_group d (s.callers d) ∷ []) []) (sym (put_else G.landed o true d apart))))
+      (λ same. subst (λ (y : ℕ). OwnGroups y (s.history ++ own ∷ []) (s.callers y) (put G.linearized o true y)) (sym same)
+      (joins_mine z s L o P.not_yet ∙ ap (λ (b : Bool). ko.mine ++ cond b (own ∷ []) []) (sym (put_here G.linearized o true))))
+      (λ apart. mine-push_other s.history own d apart ∙ ((L.callers d).own_groups ∙ ap (λ (b : Bool). (s.callers d).mine ++ cond b (own_group d (s.callers d) ∷ []) []) (sym (put_else G.linearized o true d apart))))
 
   -- the rows of the announcement go on to have the values of its owner's enqueues
-  told_here : Told s.memory.value path' (stage' a) (s.memory.said a) o ko
+  told_here : Told s.memory.value path' (stage' a) (s.memory.notice a) o ko
   told_here = record {
-    tells = T.tells;
+    describes = T.describes;
     helps = T.helps;
-    values = λ i d. subst (λ (y : ℕ). enqueued ko.ops ≡ run v' (suc y) enqs) (one_place decided_here d)
+    values = λ i d. subst (λ (y : ℕ). enqueued ko.ops ≡ run v' (suc y) enqs) (one_position decided_here d)
         (P.values ∙ run_moved (λ j. s.memory.value (G.chain j)) v' 0 (suc e) enqs (λ x below. sym (ap s.memory.value (new_path (suc e + x) x (omega arith)) ∙ ap (λ (y : ℕ). s.memory.value (G.chain y)) (let f : x ≡ 0 + x = omega arith in f))));
   }
 
   told' : (x : ℕ) → IsTold z memory' G' (put s.callers c k') x
-  told' x at_x = subst (λ (y : ℕ). Told s.memory.value path' (stage' y) (s.memory.said y) (owner_of z y) (put s.callers c k' (owner_of z y))) (sym (alone x at_x)) (put_all s.callers c k' (λ d k. o ≡ d → Told s.memory.value path' (stage' a) (s.memory.said a) o k)
-      (λ same. let t = subst (λ (d : ℕ). Told s.memory.value path' (stage' a) (s.memory.said a) o (s.callers d)) same told_here in record { tells = t.tells; helps = subst HelpsOwn is t.helps; values = t.values })
-      (λ d _ same. subst (λ (d : ℕ). Told s.memory.value path' (stage' a) (s.memory.said a) o (s.callers d)) same told_here) o refl)
+  told' x at_x = subst (λ (y : ℕ). Told s.memory.value path' (stage' y) (s.memory.notice y) (owner_of z y) (put s.callers c k' (owner_of z y))) (sym (alone x at_x)) (put_all s.callers c k' (λ d k. o ≡ d → Told s.memory.value path' (stage' a) (s.memory.notice a) o k)
+      (λ same. let t = subst (λ (d : ℕ). Told s.memory.value path' (stage' a) (s.memory.notice a) o (s.callers d)) same told_here in record { describes = t.describes; helps = subst HelpsOwn is t.helps; values = t.values })
+      (λ d _ same. subst (λ (d : ℕ). Told s.memory.value path' (stage' a) (s.memory.notice a) o (s.callers d)) same told_here) o refl)
 
-  pub chain_linked : Lawful z (changed s c memory' (own ∷ []) k')
+  pub chain_linked : Lawful z (changed s c memory' (s.history ++ own ∷ []) k')
   chain_linked = record {
     ghost = G';
     history = joins_proper z s L o P.not_yet P.known some_ops;
     queue = queue';
-    rows = listed';
-    item_rows = λ i above below. each_place (λ i r. IsItem z r) (suc (G.head + m)) (λ i above below. let none = bare in L.item_rows i (omega arith) below) P.items i (omega arith) below;
-    head = headed';
-    tail = tailed';
-    counts = counts';
-    links = links_put z.rows s.memory.link p.row (Chain h.first) (subst (λ (r : ℕ). r < z.rows) (P.starts ∙ first_is) (P.inside 0 P.some)) L.links;
+    list = record {
+      rows = listed';
+      item_rows = λ i above below. each_place (λ i r. IsItem z r) (suc (G.head + m)) (λ i above below. let none = bare in L.list.item_rows i (omega arith) below) P.items i (omega arith) below;
+      head = headed';
+      tail = tailed';
+      counts = counts';
+      links = links_put z.rows s.memory.link p.row (Chain h.first) (subst (λ (r : ℕ). r < z.rows) (P.starts ∙ first_is) (P.inside 0 P.some)) L.list.links;
+    };
     announced = announced';
     told = told';
     pending = λ x w. absurd (none_waits x w);
-    unmade = put_all s.callers c k' (λ d y. Unmade z stage' d y) (unmade_here c) (λ d _. unmade_here d);
-    own_groups = put_all s.callers c k' (λ d y. OwnGroups d (s.history ++ own ∷ []) y (put G.landed o true d)) (groups' c) (λ d _. groups' d);
-    allowed = put_all s.callers c k' (λ d y. Allowed z y.mine y.ops y.taken y.made) (L.allowed c) (λ d _. L.allowed d);
-    kept_facts = put_all s.callers c k' (λ d y. Each z W d (facts z d y))
-        (let f = all_know c in let t = subst (λ (u : Turn). Each z W c (turn_facts z c (s.callers c) u)) is f.1.1.1 in (f.0, (f.1.0, (kept_turned (s.history ++ own ∷ []) c (s.callers c) (HelpTail h) (s.callers c).values f.1.1.0, (t.0, t.1.1.1.1.1)))))
-        (λ d _. all_know d);
+    callers = put_all s.callers c k' (λ d y. OfCaller z W d y) (record {
+      unmade = unmade_here c;
+      own_groups = groups' c;
+      allowed = (L.callers c).allowed;
+      knows = let f = all_know c in let t = subst (λ (u : Point). AtPoint z W c (s.callers c) u) is f.at_point in record {
+        unused = f.unused;
+        started = f.started;
+        last = kept_stepped (s.history ++ own ∷ []) c (s.callers c) (point.Help h help.LoadTail) (s.callers c).values f.last;
+        at_point = record { call = t.call; here = tt };
+      };
+    }) (λ d _. record { unmade = unmade_here d; own_groups = groups' d; allowed = (L.callers d).allowed; knows = all_know d });
   } where
     unmade_here : (d : ℕ) → Unmade z stage' d (s.callers d)
-    unmade_here d i from below = let u = L.unmade d i from below in stage_else (own_ann z d i) (λ same. unused_waits u (ap G.stage same ∙ waits)) ∙ u
+    unmade_here d i from below = let u = (L.callers d).unmade i from below in stage_else (own_ann z d i) (λ same. unused_waits u (ap G.stage same ∙ waits)) ∙ u
 
-module _ (z : Lane) (s : State) (L : Lawful z s) (c : ℕ) where
-  chain_found : (h : Help) (p : Place) → (s.callers c).turn ≡ LinkChain h p → (x : LinkWord) → s.memory.link p.row ≡ x → Each z (world s L.ghost) c (turn_facts z c (s.callers c) (LinkChain h p)) → Lawful z (step_with z s c (LinkChain h p) (OfLink x))
-  chain_found h p is Nil at_nil (reading, (on, (seen, (stood, (ends, rest))))) = chain_linked z s L c h p reading on seen ends at_nil is
-  chain_found h p is (Single r) at_r (reading, (on, (seen, (stood, (ends, rest))))) = quiet z s L c (HelpTail h) (Link p.row) (OfLink (Single r)) (ap OfLink at_r) (reading, rest)
-  chain_found h p is (Chain r) at_r (reading, (on, (seen, (stood, (ends, rest))))) = quiet z s L c (HelpTail h) (Link p.row) (OfLink (Chain r)) (ap OfLink at_r) (reading, rest)
-  chain_found h p is Shut at_shut (reading, (on, (seen, (stood, (ends, rest))))) = quiet z s L c (HelpTail h) (Link p.row) (OfLink Shut) (ap OfLink at_shut) (reading, rest)
+module _ (z : LaneSizes) (s : State) (L : Lawful z s) (c : ℕ) where
+  chain_found : (h : Help) (p : Place) → (s.callers c).point ≡ point.Help h (help.LinkChain p) → (x : LinkWord) → s.memory.link p.row ≡ x → AtPoint z (world s L.ghost) c (s.callers c) (point.Help h (help.LinkChain p)) → Lawful z (step_with z s c (point.Help h (help.LinkChain p)) (OfLink x))
+  chain_found h p is Nil at_nil f = chain_linked z s L c h p f.call.0 f.here.0 f.here.1.0 f.here.1.1.1.0 at_nil is
+  chain_found h p is (Single r) at_r f = stutters z s L c (point.Help h help.LoadTail) (Link p.row) (OfLink (Single r)) (ap OfLink at_r) (record { call = f.call; here = tt })
+  chain_found h p is (Chain r) at_r f = stutters z s L c (point.Help h help.LoadTail) (Link p.row) (OfLink (Chain r)) (ap OfLink at_r) (record { call = f.call; here = tt })
+  chain_found h p is Shut at_shut f = stutters z s L c (point.Help h help.LoadTail) (Link p.row) (OfLink Shut) (ap OfLink at_shut) (record { call = f.call; here = tt })
 
-  pub keeps_link_chain : (h : Help) (p : Place) → (s.callers c).turn ≡ LinkChain h p → Lawful z (step_at z s c (LinkChain h p))
-  keeps_link_chain h p is = chain_found h p is (s.memory.link p.row) refl (known z s L c (LinkChain h p) is)
+  pub preserves_link_chain : (h : Help) (p : Place) → (s.callers c).point ≡ point.Help h (help.LinkChain p) → Lawful z (step_at z s c (point.Help h (help.LinkChain p)))
+  preserves_link_chain h p is = chain_found h p is (s.memory.link p.row) refl (known z s L c (point.Help h (help.LinkChain p)) is)

@@ -8,20 +8,20 @@ use Rattle.word_rows.specs.declared.link_word.LinkWord.TheVariants.{Nil, Single,
 use Rattle.word_rows.specs.declared.location.Location.{Location}
 use Rattle.word_rows.specs.declared.location.Location.TheVariants.{Head, Tail, Link, Value, Mark, NodeHazard, AnnHazard, AnnWord}
 use Rattle.word_rows.specs.declared.content.Content.TheVariants.{OfHead, OfTail, OfLink}
-use Rattle.core_model.specs.Lane.{Lane}
+use Rattle.core_model.specs.LaneSizes.{LaneSizes}
 use Rattle.core_model.specs.State.{State, read}
 use Rattle.core_model.specs.Ranges.{NamesRows}
 use Rattle.core_model.specs.Lawful.{LinksIn, Lawful}
-use Rattle.core_model.proofs.Loads.{node_found}
+use Rattle.core_model.proofs.Lookups.{node_found}
 use Rattle.core_model.proofs.Ends.{tail_fits, head_fits}
 
-module _ (z : Lane) (s : State) (L : Lawful z s) (fits : z.first + z.callers * z.allowance < 2 ^ 44) where
+module _ (z : LaneSizes) (s : State) (L : Lawful z s) (fits : z.first + z.callers * z.allowance < 2 ^ 44) where
   head_found : (x : HeadWord) → s.memory.head ≡ x → NamesRows z.rows Head (OfHead x)
-  head_found (Node p) is = (subst (λ (r : ℕ). r < z.rows) (sym (ap (λ (q : Place). q.row) (node_found z s L 0 p is).1)) (L.rows.inside L.ghost.head (omega arith)), head_fits z s L fits p is)
+  head_found (Node p) is = (subst (λ (r : ℕ). r < z.rows) (sym (ap (λ (q : Place). q.row) (node_found z s L 0 p is).1)) (L.list.rows.inside L.ghost.head (omega arith)), head_fits z s L fits p is)
   head_found (Ann a n) is = tt
 
   tail_found : NamesRows z.rows Tail (OfTail s.memory.tail)
-  tail_found = let within = L.tail.within in (subst (λ (r : ℕ). r < z.rows) (sym (ap (λ (q : Place). q.row) L.tail.named)) (L.rows.inside L.ghost.tail (omega arith)), tail_fits z s L fits)
+  tail_found = let within = L.list.tail.within in (subst (λ (r : ℕ). r < z.rows) (sym (ap (λ (q : Place). q.row) L.list.tail.named)) (L.list.rows.inside L.ghost.tail (omega arith)), tail_fits z s L fits)
 
   link_found : (r : ℕ) (l : LinkWord) → LinksIn z.rows l → NamesRows z.rows (Link r) (OfLink l)
   link_found r Nil below = tt
@@ -32,7 +32,7 @@ module _ (z : Lane) (s : State) (L : Lawful z s) (fits : z.first + z.callers * z
   pub names_rows : (l : Location) → NamesRows z.rows l (read s.memory l)
   names_rows Head = head_found s.memory.head refl
   names_rows Tail = tail_found
-  names_rows (Link r) = link_found r (s.memory.link r) (L.links r)
+  names_rows (Link r) = link_found r (s.memory.link r) (L.list.links r)
   names_rows (Value r) = tt
   names_rows (Mark r) = tt
   names_rows (NodeHazard c) = tt

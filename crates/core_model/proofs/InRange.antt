@@ -1,29 +1,35 @@
 -- Each step of a lawful lane names a row of the lane, and no count passes the limit.
-use Rattle.std.proofs.Common.{◌≡◌, ℕ, suc, ◌+◌, ◌*◌, ◌-◌, ◌^◌, ◌<◌, ◌≤◌, Bool, true, false, cond, List, [], ◌∷◌, ◌++◌, length, refl, ap, ◌∙◌, subst, arith}
+use Rattle.std.proofs.Common.{◌≡◌, ℕ, suc, ◌+◌, ◌*◌, ◌-◌, ◌^◌, ◌<◌, ◌≤◌, Bool, true, false, cond, List, [], ◌∷◌, ◌++◌, length, refl, sym, ap, ◌∙◌, subst, arith}
 use Rattle.std.proofs.lemmas.List.{append-nil}
 use Rattle.bq_model.specs.declared.group.Group.{Group}
 use Rattle.bq_model.specs.declared.shape.Shape.{Shape}
 use Rattle.bq_model.specs.History.{operations}
 use Rattle.bq_model.specs.Own.{mine}
 use Rattle.word_rows.specs.declared.place.Place.{Place}
-use Rattle.core_model.specs.declared.turn.Turn.{Turn}
-use Rattle.core_model.specs.declared.turn.Turn.TheVariants.{StoreValue, EnqLink, LinkSingle, EnqPass, EnqLast, DeqLink, DeqPass, DeqValue, MoveHead, BatchValue, BatchChain, BatchField, HelpOldHead, HelpFirst, HelpLast, HelpCounts, HelpOldTail, HelpLink, LinkChain, HelpPass, RecordTail, MoveTailOver, HelpWalk, MoveHeadAnn, AnswerTail, AnswerLink, AnswerValue}
-use Rattle.core_model.specs.Lane.{Lane, lane_of}
+use Rattle.core_model.specs.declared.point.Point.{Point}
+use Rattle.core_model.specs.declared.point.DequeuePoint.TheVariants as deq
+use Rattle.core_model.specs.declared.point.BatchPoint.TheVariants as batch
+use Rattle.core_model.specs.declared.point.AnswerPoint.TheVariants as answer
+use Rattle.core_model.specs.declared.point.Point.TheVariants as point
+use Rattle.core_model.specs.declared.point.EnqueuePoint.TheVariants as enq
+use Rattle.core_model.specs.declared.point.HelpPoint.TheVariants as help
+use Rattle.core_model.specs.LaneSizes.{LaneSizes, lane_sizes}
 use Rattle.word_rows.specs.declared.batch_words.BatchCounts.{BatchCounts}
 use Rattle.core_model.specs.Batches.{gets}
-use Rattle.core_model.specs.State.{State}
-use Rattle.core_model.specs.Step.{own_group, target}
+use Rattle.core_model.specs.State.{State, own_group}
+use Rattle.core_model.specs.Fact.{next_is}
+use Rattle.core_model.specs.Step.{target}
+use Rattle.core_model.specs.Facts.{Holds, AtPoint}
 use Rattle.core_model.specs.Ranges.{IsWord, RowsFit, CountsFit}
-use Rattle.core_model.specs.Facts.{next_is, Holds, Each, turn_facts}
 use Rattle.core_model.specs.Lawful.{Lawful}
 use Rattle.core_model.proofs.Groups.{operations_within, length-operations-push}
-use Rattle.core_model.proofs.Stays.{world}
-use Rattle.core_model.proofs.Keeps.{known}
+use Rattle.core_model.proofs.Stable.{world}
+use Rattle.core_model.proofs.Preserves.{known}
 
-module _ (z : Lane) (s : State) (L : Lawful z s) where
+module _ (z : LaneSizes) (s : State) (L : Lawful z s) where
   -- what a caller has in the history is within its allowance
   own_within : (c : ℕ) → length (operations (mine s.history c)) ≤ z.allowance
-  own_within c = let within = (L.allowed c).within in by (L.ghost.landed c) (L.own_groups c) within where
+  own_within c = let within = (L.callers c).allowed.within in by (L.ghost.linearized c) (L.callers c).own_groups within where
     by : (b : Bool) → mine s.history c ≡ (s.callers c).mine ++ cond b (own_group c (s.callers c) ∷ []) [] → length (operations (s.callers c).mine) + length (s.callers c).ops ≤ z.allowance
         → length (operations (mine s.history c)) ≤ z.allowance
     by true e within = let total = ap (λ (gs : List Group). length (operations gs)) e ∙ length-operations-push (s.callers c).mine (own_group c (s.callers c)) in omega arith
@@ -34,58 +40,58 @@ module _ (z : Lane) (s : State) (L : Lawful z s) where
 
   module _ (fits : z.first + z.callers * z.allowance < 2 ^ 44) where
     -- the count of a row behind which another was linked
-    count_fits : (c : ℕ) (p : Place) (n : ℕ) → Holds z (world s L.ghost) c (next_is p n) → p.count < 2 ^ 44
-    count_fits c p n next = let from = next.0 in let inside = (next.2 (p.count - z.first) (omega arith)).0 in let made = L.counts in let all = all_within in omega arith
+    count_fits : (c : ℕ) (p : Place) (n : ℕ) → Holds z (world s L.ghost) c (next_is p n) → p.count + 1 < 2 ^ 44
+    count_fits c p n next = let from = next.0 in let inside = (next.2 (p.count - z.first) (omega arith)).0 in let made = L.list.counts in let all = all_within in omega arith
 
-    fits_at : (c : ℕ) (t : Turn) → Each z (world s L.ghost) c (turn_facts z c (s.callers c) t) → CountsFit t
-    fits_at c (EnqPass x p n) f = count_fits c p n f.1.1.1.1.0
-    fits_at c (EnqLast p n) f = count_fits c p n f.1.0
-    fits_at c (DeqPass p n) f = count_fits c p n f.1.1.0
-    fits_at c (MoveHead p n v) f = count_fits c p n f.1.1.0
-    fits_at c (HelpPass h p n) f = count_fits c p n f.1.0
-    fits_at c (MoveTailOver h q) f = let old = f.1.0 in let within = (L.announced.bound h.ann old.0 old.1).within in let count = ap (λ (p : Place). p.count) (L.announced.recorded h.ann old.0 q old.1 old.2) in
-        let enqs = ap (λ (k : BatchCounts). k.enqs) (f.0.5 (omega arith)) in let made = L.counts in let all = all_within in omega arith
-    fits_at c (MoveHeadAnn h m r) f = let sum = f.1.1.0.3 in let made = L.counts in let all = all_within in omega arith
+    fits_at : (c : ℕ) (t : Point) → AtPoint z (world s L.ghost) c (s.callers c) t → CountsFit t
+    fits_at c (point.Enqueue x (enq.PassTail p n)) f = count_fits c p n f.here.0
+    fits_at c (point.Enqueue x (enq.MoveTail p n)) f = count_fits c p n f.here.0
+    fits_at c (point.Dequeue (deq.PassTail p n)) f = count_fits c p n f.here.0
+    fits_at c (point.Dequeue (deq.MoveHead p n v)) f = count_fits c p n f.here.0
+    fits_at c (point.Help h (help.PassTail p n)) f = count_fits c p n f.here.0
+    fits_at c (point.Help h (help.MoveTailOver q)) f = let old = f.here.0 in let within = (L.announced.bound h.ann old.0 old.1).within in let count = ap (λ (p : Place). p.count) (L.announced.recorded h.ann old.0 q old.1 old.2) in
+        let enqs = ap (λ (k : BatchCounts). k.enqs) (f.call.0.counts (omega arith)) in let made = L.list.counts in let all = all_within in omega arith
+    fits_at c (point.Help h (help.MoveHead m r)) f = let sum = f.here.1.0.3 in let made = L.list.counts in let all = all_within in omega arith
     fits_at c _ f = tt
 
-    pub counts_fit : (c : ℕ) → CountsFit (s.callers c).turn
-    counts_fit c = fits_at c (s.callers c).turn (known z s L c (s.callers c).turn refl)
+    pub counts_fit : (c : ℕ) → CountsFit (s.callers c).point
+    counts_fit c = fits_at c (s.callers c).point (known z s L c (s.callers c).point refl)
 
   -- a batch counts its rows out
-  rows_at : z.rows ≤ 2 ^ 31 → (c : ℕ) (t : Turn) → Each z (world s L.ghost) c (turn_facts z c (s.callers c) t) → RowsFit t
-  rows_at most c (BatchValue d i v) f = let inside = (f.1.1.0.0 i f.1.1.1.1.0.0).1 in omega arith
-  rows_at most c (BatchChain d i) f = let next = f.1.1.1.1.0 in let inside = (f.1.1.0.0 i (omega arith)).1 in omega arith
+  rows_at : z.rows ≤ 2 ^ 31 → (c : ℕ) (t : Point) → AtPoint z (world s L.ghost) c (s.callers c) t → RowsFit t
+  rows_at most c (point.Batch d (batch.StoreValue i r v)) f = let own = f.here.1.1.0 in let at = own.row in let inside = (f.here.0.0 i own.inside).1 in (omega arith, omega arith)
+  rows_at most c (point.Batch d (batch.StoreChain i r n)) f = let own = f.here.1.1.0 in let at = own.row in let behind = own.next in let more = own.inside in let inside = (f.here.0.0 (suc i) more).1 in (omega arith, omega arith)
   rows_at most c _ f = tt
 
-  pub rows_fit : z.rows ≤ 2 ^ 31 → (c : ℕ) → RowsFit (s.callers c).turn
-  rows_fit most c = rows_at most c (s.callers c).turn (known z s L c (s.callers c).turn refl)
+  pub rows_fit : z.rows ≤ 2 ^ 31 → (c : ℕ) → RowsFit (s.callers c).point
+  rows_fit most c = rows_at most c (s.callers c).point (known z s L c (s.callers c).point refl)
 
-  word_at : (c : ℕ) (t : Turn) → Each z (world s L.ghost) c (turn_facts z c (s.callers c) t) → IsWord z.rows (z.callers * z.callers) (target t)
-  word_at c (StoreValue x) f = f.1.1.0.0.inside
-  word_at c (EnqLink x p) f = f.1.1.1.1.0.3
-  word_at c (LinkSingle x p) f = f.1.1.1.1.0.3
-  word_at c (DeqLink p) f = f.1.1.0.3
-  word_at c (DeqValue p n) f = f.1.1.1.0.1
-  word_at c (BatchValue d i v) f = (f.1.1.0.0 i f.1.1.1.1.0.0).1
-  word_at c (BatchChain d i) f = let next = f.1.1.1.1.0 in (f.1.1.0.0 i (omega arith)).1
-  word_at c (BatchField d x) f = f.1.0.5
-  word_at c (HelpOldHead h) f = f.0.1
-  word_at c (HelpFirst h) f = f.0.1
-  word_at c (HelpLast h) f = f.0.1
-  word_at c (HelpCounts h) f = f.0.1
-  word_at c (HelpOldTail h p) f = f.0.1
-  word_at c (HelpLink h p) f = f.1.0.3
-  word_at c (LinkChain h p) f = f.1.0.3
-  word_at c (RecordTail h p) f = f.0.1
-  word_at c (HelpWalk h m r l) f = f.1.0.2
-  word_at c (AnswerTail h) f = f.1.0.1
-  word_at c (AnswerLink m r l) (on, ((a, i, d, R, x, m_is, sum, row, vals), _)) = subst (λ (y : ℕ). y < z.rows) row (L.rows.inside (R.dummy + x) (R.rows x (let e = sum in let all = ap (gets (s.memory.said a).counts) m_is in omega arith)).0)
-  word_at c (AnswerValue m r l) (on, ((a, i, d, R, x, m_is, sum, row, vals), _)) = let e = sum in let all = ap (gets (s.memory.said a).counts) m_is in let inside = (R.rows (suc x) (omega arith)).0 in subst (λ (y : ℕ). y < z.rows) row (L.rows.inside (suc (R.dummy + x)) (omega arith))
+  word_at : (c : ℕ) (t : Point) → AtPoint z (world s L.ghost) c (s.callers c) t → IsWord z.rows (z.callers * z.callers) (target t)
+  word_at c (point.Enqueue x enq.StoreValue) f = f.call.1.1.0.0.inside
+  word_at c (point.Enqueue x (enq.LoadLink p)) f = f.here.0.3
+  word_at c (point.Enqueue x (enq.LinkSingle p)) f = f.here.0.3
+  word_at c (point.Dequeue (deq.LoadLink p)) f = f.here.0.3
+  word_at c (point.Dequeue (deq.LoadValue p n)) f = f.here.1.0.1
+  word_at c (point.Batch d (batch.StoreValue i r v)) f = let own = f.here.1.1.0 in subst (λ (y : ℕ). y < z.rows) (sym own.row) (f.here.0.0 i own.inside).1
+  word_at c (point.Batch d (batch.StoreChain i r n)) f = let own = f.here.1.1.0 in let next = own.inside in subst (λ (y : ℕ). y < z.rows) (sym own.row) (f.here.0.0 i (omega arith)).1
+  word_at c (point.Batch d (batch.StoreField x)) f = f.call.1.0.5
+  word_at c (point.Help h help.LoadOldHead) f = f.call.0.inside
+  word_at c (point.Help h help.LoadFirst) f = f.call.0.inside
+  word_at c (point.Help h help.LoadLast) f = f.call.0.inside
+  word_at c (point.Help h help.LoadCounts) f = f.call.0.inside
+  word_at c (point.Help h (help.LoadOldTail p)) f = f.call.0.inside
+  word_at c (point.Help h (help.LoadLink p)) f = f.here.0.3
+  word_at c (point.Help h (help.LinkChain p)) f = f.here.0.3
+  word_at c (point.Help h (help.RecordTail p)) f = f.call.0.inside
+  word_at c (point.Help h (help.LoadWalk m r l)) f = f.here.0.2
+  word_at c (point.Answer (answer.LoadOldTail h)) f = f.here.0.inside
+  word_at c (point.Answer (answer.LoadLink m r l)) f = let rd = f.here.0 in subst (λ (y : ℕ). y < z.rows) rd.last_row (L.list.rows.inside (rd.linearized.dummy + rd.read) (rd.linearized.rows rd.read (let e = rd.left in let all = ap (gets (s.memory.notice rd.ann).counts) rd.queued in omega arith)).0)
+  word_at c (point.Answer (answer.LoadValue m r l)) f = let rd = f.here.0 in let R = rd.3 in let e = rd.6 in let all = ap (gets (s.memory.notice rd.0).counts) rd.5 in let inside = (R.rows (suc rd.4) (omega arith)).0 in subst (λ (y : ℕ). y < z.rows) rd.7 (L.list.rows.inside (suc (R.dummy + rd.4)) (omega arith))
   word_at c _ f = tt
 
-  pub is_word : (c : ℕ) → IsWord z.rows (z.callers * z.callers) (target (s.callers c).turn)
-  is_word c = word_at c (s.callers c).turn (known z s L c (s.callers c).turn refl)
+  pub is_word : (c : ℕ) → IsWord z.rows (z.callers * z.callers) (target (s.callers c).point)
+  is_word c = word_at c (s.callers c).point (known z s L c (s.callers c).point refl)
 
 -- a shape's counts fit
-pub shape_fits : (z : Shape) → (lane_of z).first + (lane_of z).callers * (lane_of z).allowance < 2 ^ 44
+pub shape_fits : (z : Shape) → (lane_sizes z).first + (lane_sizes z).callers * (lane_sizes z).allowance < 2 ^ 44
 shape_fits z = z.counts_fit

@@ -6,49 +6,51 @@ use Rattle.bq_model.specs.declared.group.Group.{Group}
 use Rattle.bq_model.specs.declared.shape.Shape.{Shape}
 use Rattle.word_rows.specs.declared.head_word.HeadWord.TheVariants.{Node}
 use Rattle.word_rows.specs.Sizes.{items_of, own_rows_of}
-use Rattle.core_model.specs.declared.turn.CallEnd.TheVariants.{Done}
-use Rattle.core_model.specs.Lane.{item, lane_of}
+use Rattle.core_model.specs.declared.point.CallEnd.TheVariants.{Done}
+use Rattle.core_model.specs.LaneSizes.{item, lane_sizes}
 use Rattle.core_model.specs.Start.{opening}
 use Rattle.core_model.specs.Ghost.{unused, Ghost}
 use Rattle.core_model.specs.Facts.{Owns}
 use Rattle.core_model.specs.Lawful.{Lawful}
-use Rattle.core_model.proofs.Stays.{world, unused_waits, unused_decides}
+use Rattle.core_model.proofs.Stable.{world, unused_waits, unused_decides}
 
 abbrev first_ghost : Ghost
-first_ghost = record { path = λ _. 0; chained = λ _. false; spot = λ r. cond (eqb r 0) (Some 0) None; head = 0; rest = 0; tail = 0; ann = None; shown = 0; queued = 0; landed = λ _. false; stage = λ _. unused; chain = λ _. 0; cause = λ _. 0 }
+first_ghost = record { path = λ _. 0; chained = λ _. false; spot = λ r. cond (eqb r 0) (Some 0) None; head = 0; rest = 0; tail = 0; ann = None; shown = 0; queued = 0; linearized = λ _. false; stage = λ _. unused; chain = λ _. 0; cause = λ _. 0 }
 
 -- the i-th of w rows of caller c, of n callers
 row_inside : (n w c i : ℕ) → i < w → c < n → 1 + c * w + i < 1 + n * w
 row_inside n w c i below known = let most : suc c * w ≤ n * w = mul-le-mul_right w known in let e : suc c * w ≡ c * w + w = omega (arith, Rattle.std.proofs.Math.Nat.suc-mul c w) in omega arith
 
-row_home : (w c i : ℕ) → i < w → (1 + c * w + i - 1) / w ≡ c
+pub row_home : (w c i : ℕ) → i < w → (1 + c * w + i - 1) / w ≡ c
 row_home w c i below = ap (λ (n : ℕ). n / w) (let e : 1 + c * w + i - 1 ≡ c * w + i = omega arith in e) ∙ div-mul-add c w i below
 
-pub opens : (z : Shape) → Lawful (lane_of z) (opening (lane_of z))
+pub opens : (z : Shape) → Lawful (lane_sizes z) (opening (lane_sizes z))
 opens z = record {
   ghost = first_ghost;
   history = record { known = All-nil (λ (g : Group). g.caller < z.callers); filled = All-nil (λ (g : Group). g.ops ≢ []); numbered = λ _. refl };
   queue = refl;
-  rows = record {
-    joined = λ i _ below. absurd (omega arith);
-    last = refl;
-    spots = λ i _ below. ap Some (let e : 0 ≡ i = omega arith in e);
-    inside = λ i _. omega arith;
+  list = record {
+    rows = record {
+      joined = λ i _ below. absurd (omega arith);
+      last = refl;
+      spots = λ i _ below. ap Some (let e : 0 ≡ i = omega arith in e);
+      inside = λ i _. omega arith;
+    };
+    item_rows = λ i above below. absurd (omega arith);
+    head = record {
+      named = λ i. Node (record { row = 0; count = (let e : z.first_count ≡ z.first_count + 0 = omega arith in e) i });
+      none = λ _. refl;
+      fits = refl;
+    };
+    tail = record {
+      named = λ i. record { row = 0; count = (let e : z.first_count ≡ z.first_count + 0 = omega arith in e) i };
+      after_head = le_refl _;
+      within = le_refl _;
+      lags = λ below _. absurd (omega arith);
+    };
+    counts = le_refl _;
+    links = λ _. tt;
   };
-  item_rows = λ i above below. absurd (omega arith);
-  head = record {
-    named = λ i. Node (record { row = 0; count = (let e : z.first_count ≡ z.first_count + 0 = omega arith in e) i });
-    none = λ _. refl;
-    fits = refl;
-  };
-  tail = record {
-    named = λ i. record { row = 0; count = (let e : z.first_count ≡ z.first_count + 0 = omega arith in e) i };
-    after_head = le_refl _;
-    within = le_refl _;
-    lags = λ below _. absurd (omega arith);
-  };
-  counts = le_refl _;
-  links = λ _. tt;
   announced = record {
     inside = λ a e. absurd (nothing e);
     installed = λ a e. absurd (nothing e);
@@ -63,10 +65,17 @@ opens z = record {
   };
   told = λ a e. absurd (nothing e);
   pending = λ a e. absurd (unused_waits refl e);
-  unmade = λ _ _ _ _. refl;
-  own_groups = λ _. refl;
-  allowed = λ _. record { within = omega arith; rows = refl; has_rows = omega arith; anns = refl; has_anns = omega arith };
-  kept_facts = λ c. ((λ i _ below known. never_taken c i below known), (le_refl _, (record { none = λ _. refl; done = λ is. absurd (never is) }, ((refl, λ a e _. nothing e), ((refl, λ some. absurd (some refl)), tt)))));
+  callers = λ c. record {
+    unmade = λ _ _ _. refl;
+    own_groups = refl;
+    allowed = record { within = omega arith; rows = refl; has_rows = omega arith; anns = refl; has_anns = omega arith };
+    knows = record {
+      unused = λ i _ below known. never_taken c i below known;
+      started = le_refl _;
+      last = record { none = λ _. refl; done = λ is. absurd (never is) };
+      at_point = record { call = ((refl, λ a e _. nothing e), tt); here = ((refl, λ some. absurd (some refl)), tt) };
+    };
+  };
 } where
   nothing : {a : ℕ} → None ≡ Some a → ⊥
   nothing e = cc e
@@ -74,7 +83,7 @@ opens z = record {
   never : None ≡ Some Done → ⊥
   never e = cc e
 
-  never_taken : (c i : ℕ) → i < items_of z → c < z.callers → Owns (lane_of z) (world (opening (lane_of z)) first_ghost) c (item (lane_of z) c i)
+  never_taken : (c i : ℕ) → i < items_of z → c < z.callers → Owns (lane_sizes z) (world (opening (lane_sizes z)) first_ghost) c (item (lane_sizes z) c i)
   never_taken c i below known = let own : i < own_rows_of z = omega arith in record {
     at_home = row_home (own_rows_of z) c i own;
     inside = row_inside z.callers (own_rows_of z) c i own known;

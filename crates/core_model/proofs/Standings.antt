@@ -5,31 +5,33 @@ use Rattle.word_rows.specs.declared.place.Place.{Place}
 use Rattle.word_rows.specs.declared.head_word.HeadWord.TheVariants.{Ann}
 use Rattle.word_rows.specs.declared.link_word.LinkWord.{LinkWord}
 use Rattle.word_rows.specs.declared.link_word.LinkWord.TheVariants.{Nil}
-use Rattle.core_model.specs.declared.turn.Help.{Help}
-use Rattle.core_model.specs.declared.turn.Turn.{Turn}
-use Rattle.core_model.specs.declared.turn.Turn.TheVariants.{LinkChain}
-use Rattle.core_model.specs.Lane.{Lane}
+use Rattle.core_model.specs.declared.point.Help.{Help}
+use Rattle.core_model.specs.declared.point.Point.{Point}
+use Rattle.core_model.specs.declared.point.Point.TheVariants as point
+use Rattle.core_model.specs.declared.point.HelpPoint.TheVariants as help
+use Rattle.core_model.specs.LaneSizes.{LaneSizes}
 use Rattle.core_model.specs.Batches.{owner_of}
-use Rattle.core_model.specs.State.{State, command, read}
-use Rattle.core_model.specs.Step.{target, own_group, is_nil, grown, next}
-use Rattle.core_model.specs.Facts.{Tells}
+use Rattle.core_model.specs.State.{State, command, read, own_group}
+use Rattle.core_model.specs.Act.{is_nil}
+use Rattle.core_model.specs.Step.{target, added_by, next}
+use Rattle.core_model.specs.Facts.{Describes}
 use Rattle.core_model.specs.Lawful.{head_word, Lawful}
-use Rattle.core_model.proofs.Alone.{history_grows}
+use Rattle.core_model.proofs.Alone.{history_added}
 
-module _ (z : Lane) (s : State) (L : Lawful z s) where
+module _ (z : LaneSizes) (s : State) (L : Lawful z s) where
   -- the announcement that HEAD names is the one that stands
   pub stands_there : (a n : ℕ) → s.memory.head ≡ Ann a n → L.ghost.ann ≡ Some a
-  stands_there a n is = by L.ghost.ann (sym is ∙ L.head.named) where
+  stands_there a n is = by L.ghost.ann (sym is ∙ L.list.head.named) where
     by : (o : Option ℕ) → Ann a n ≡ head_word z.first L.ghost.path L.ghost.head o → o ≡ Some a
     by None e = absurd (cc e)
     by (Some b) e = ap Some (cc e)
 
-  pub tells_its_batch : (a n : ℕ) → s.memory.head ≡ Ann a n → Tells (owner_of z a) (command (s.callers (owner_of z a))) (s.memory.said a)
-  tells_its_batch a n is = (L.told a (stands_there a n is)).tells
+  pub tells_its_batch : (a n : ℕ) → s.memory.head ≡ Ann a n → Describes (owner_of z a) (command (s.callers (owner_of z a))) (s.memory.notice a)
+  tells_its_batch a n is = (L.told a (stands_there a n is)).describes
 
 -- the step of caller c that links the chain of an announcement adds the group of its owner
-pub puts_owners_group : (z : Lane) (s : State) (c : ℕ) (h : Help) (p : Place) → (s.callers c).turn ≡ LinkChain h p → s.memory.link p.row ≡ Nil
+pub puts_owners_group : (z : LaneSizes) (s : State) (c : ℕ) (h : Help) (p : Place) → (s.callers c).point ≡ point.Help h (help.LinkChain p) → s.memory.link p.row ≡ Nil
     → (next z s c).history ≡ s.history ++ own_group (owner_of z h.ann) (s.callers (owner_of z h.ann)) ∷ []
-puts_owners_group z s c h p turn nil = history_grows z s c ∙ ap (λ (gs : List Group). s.history ++ gs)
-    (ap (λ (t : Turn). grown z s.callers c t (read s.memory (target t))) turn
+puts_owners_group z s c h p point nil = history_added z s c ∙ ap (λ (gs : List Group). s.history ++ gs)
+    (ap (λ (t : Point). added_by z s.callers c t (read s.memory (target t))) point
     ∙ ap (λ (l : LinkWord). cond (is_nil l) (own_group (owner_of z h.ann) (s.callers (owner_of z h.ann)) ∷ []) []) nil)

@@ -7,119 +7,76 @@ use Rattle.bq_model.specs.declared.op.Op.TheVariants.{Enq, Deq}
 use Rattle.bq_model.specs.declared.group.Group.{Group}
 use Rattle.bq_model.specs.History.{operations}
 use Rattle.excess_count.specs.Excess.{enqueue_count}
-use Rattle.core_model.specs.declared.turn.Turn.{Turn}
-use Rattle.core_model.specs.declared.turn.Turn.TheVariants.{Idle, StoreValue, EnqTail, EnqLink, LinkSingle, EnqPass, EnqLast, EnqHead, DeqHead, DeqLink, DeqTail, DeqOver, DeqPass, DeqValue, MoveHead, BatchValue, BatchChain, BatchField, BatchHead, Install, HelpOldHead, HelpFirst, HelpLast, HelpCounts, HelpTail, HelpOldTail, HelpLink, LinkChain, HelpPass, RecordTail, HelpOver, MoveTailOver, HelpWalk, MoveHeadAnn, AnswerTail, AnswerLink, AnswerValue}
-use Rattle.core_model.specs.declared.turn.CallEnd.TheVariants.{Done, Full}
+use Rattle.core_model.specs.declared.point.Point.{Point}
+use Rattle.core_model.specs.declared.point.Point.TheVariants.{Idle}
+use Rattle.core_model.specs.declared.point.Point.TheVariants as point
+use Rattle.core_model.specs.declared.point.CallEnd.TheVariants.{Done, Full}
 use Rattle.core_model.specs.Functions.{put}
-use Rattle.core_model.specs.Lane.{Lane, item}
-use Rattle.core_model.specs.declared.turn.Draft.{Draft}
+use Rattle.core_model.specs.LaneSizes.{LaneSizes, item}
+use Rattle.core_model.specs.declared.point.Draft.{Draft}
 use Rattle.core_model.specs.Batches.{own_ann, many_count}
-use Rattle.core_model.specs.State.{Caller, State}
-use Rattle.core_model.specs.Step.{own_group, step_at, next}
-use Rattle.core_model.specs.Start.{PassesAllowance, IsCommand, anns_taken, has_rows, draft_of, first_turn, started, refused, start}
+use Rattle.core_model.specs.State.{Caller, State, own_group}
+use Rattle.core_model.specs.Fact.{linearized_is}
+use Rattle.core_model.specs.Step.{step_at, next}
+use Rattle.core_model.specs.Facts.{Owns, Holds, AtPoint, Knows}
+use Rattle.core_model.specs.Start.{PassesAllowance, IsCommand, anns_taken, has_rows, draft_of, first_point, started, refused, start}
 use Rattle.core_model.specs.Kept.{Kept}
-use Rattle.core_model.specs.Facts.{Owns, landed_is, Holds, Each, turn_facts, facts}
-use Rattle.core_model.specs.Lawful.{Unmade, OwnGroups, Allowed, Lawful}
+use Rattle.core_model.specs.Lawful.{Unmade, OwnGroups, Allowed, OfCaller, Lawful}
 use Rattle.core_model.proofs.Puts.{put_all}
-use Rattle.core_model.proofs.Stays.{world}
-use Rattle.core_model.proofs.Keeps.{Plain, known, told_plain, waits_plain, waits_there}
-use Rattle.core_model.proofs.Loads.{keeps_batch_head, keeps_enq_tail, keeps_enq_link, keeps_enq_head, keeps_deq_head, keeps_deq_tail, keeps_deq_over, keeps_deq_value, keeps_idle}
-use Rattle.core_model.proofs.Stores.{keeps_store_value}
-use Rattle.core_model.proofs.Appends.{keeps_link_single}
-use Rattle.core_model.proofs.Tails.{keeps_enq_pass, keeps_enq_last, keeps_deq_pass}
-use Rattle.core_model.proofs.Heads.{keeps_deq_link, keeps_move_head}
-use Rattle.core_model.proofs.Batches.{keeps_batch_value, keeps_batch_chain, keeps_batch_field}
-use Rattle.core_model.proofs.Installs.{keeps_install}
-use Rattle.core_model.proofs.Helps.{keeps_help_old_head, keeps_help_first, keeps_help_last, keeps_help_counts, keeps_help_tail, keeps_help_old_tail, keeps_help_link, keeps_help_pass, keeps_record_tail}
-use Rattle.core_model.proofs.Walks.{keeps_help_over, keeps_move_tail_over, keeps_help_walk, keeps_move_head_ann}
-use Rattle.core_model.proofs.Chains.{keeps_link_chain}
-use Rattle.core_model.proofs.Answers.{keeps_answer_tail, keeps_answer_link, keeps_answer_value}
+use Rattle.core_model.proofs.Stable.{world}
+use Rattle.core_model.proofs.Preserves.{Plain, known, stutters_at, told_plain, waits_plain, waits_there}
+use Rattle.core_model.proofs.EnqueueSteps.{preserves_enqueue}
+use Rattle.core_model.proofs.DequeueSteps.{preserves_dequeue}
+use Rattle.core_model.proofs.BatchSteps.{preserves_batch}
+use Rattle.core_model.proofs.HelpSteps.{preserves_help}
+use Rattle.core_model.proofs.AnswerSteps.{preserves_answer}
 
-module _ (z : Lane) (s : State) (L : Lawful z s) (c : ℕ) where
-  pub keeps_at : (t : Turn) → (s.callers c).turn ≡ t → Lawful z (step_at z s c t)
-  keeps_at Idle is = keeps_idle z s L c is
-  keeps_at (StoreValue x) is = keeps_store_value z s L c x is
-  keeps_at (EnqTail x) is = keeps_enq_tail z s L c x is
-  keeps_at (EnqLink x p) is = keeps_enq_link z s L c x p is
-  keeps_at (LinkSingle x p) is = keeps_link_single z s L c x p is
-  keeps_at (EnqPass x p n) is = keeps_enq_pass z s L c x p n is
-  keeps_at (EnqLast p n) is = keeps_enq_last z s L c p n is
-  keeps_at (EnqHead x) is = keeps_enq_head z s L c x is
-  keeps_at DeqHead is = keeps_deq_head z s L c is
-  keeps_at (DeqLink p) is = keeps_deq_link z s L c p is
-  keeps_at (DeqTail p n) is = keeps_deq_tail z s L c p n is
-  keeps_at (DeqOver p n) is = keeps_deq_over z s L c p n is
-  keeps_at (DeqPass p n) is = keeps_deq_pass z s L c p n is
-  keeps_at (DeqValue p n) is = keeps_deq_value z s L c p n is
-  keeps_at (MoveHead p n v) is = keeps_move_head z s L c p n v is
-  keeps_at (BatchValue d i v) is = keeps_batch_value z s L c d i v is
-  keeps_at (BatchChain d i) is = keeps_batch_chain z s L c d i is
-  keeps_at (BatchField d f) is = keeps_batch_field z s L c d f is
-  keeps_at (BatchHead d) is = keeps_batch_head z s L c d is
-  keeps_at (Install d) is = keeps_install z s L c d is
-  keeps_at (HelpOldHead h) is = keeps_help_old_head z s L c h is
-  keeps_at (HelpFirst h) is = keeps_help_first z s L c h is
-  keeps_at (HelpLast h) is = keeps_help_last z s L c h is
-  keeps_at (HelpCounts h) is = keeps_help_counts z s L c h is
-  keeps_at (HelpTail h) is = keeps_help_tail z s L c h is
-  keeps_at (HelpOldTail h p) is = keeps_help_old_tail z s L c h p is
-  keeps_at (HelpLink h p) is = keeps_help_link z s L c h p is
-  keeps_at (LinkChain h p) is = keeps_link_chain z s L c h p is
-  keeps_at (HelpPass h p n) is = keeps_help_pass z s L c h p n is
-  keeps_at (RecordTail h p) is = keeps_record_tail z s L c h p is
-  keeps_at (HelpOver h q) is = keeps_help_over z s L c h q is
-  keeps_at (MoveTailOver h q) is = keeps_move_tail_over z s L c h q is
-  keeps_at (HelpWalk h m r l) is = keeps_help_walk z s L c h m r l is
-  keeps_at (MoveHeadAnn h m r) is = keeps_move_head_ann z s L c h m r is
-  keeps_at (AnswerTail h) is = keeps_answer_tail z s L c h is
-  keeps_at (AnswerLink m r l) is = keeps_answer_link z s L c m r l is
-  keeps_at (AnswerValue m r l) is = keeps_answer_value z s L c m r l is
+module _ (z : LaneSizes) (s : State) (L : Lawful z s) (c : ℕ) where
+  pub preserves_at : (t : Point) → (s.callers c).point ≡ t → Lawful z (step_at z s c t)
+  preserves_at Idle is = let f = known z s L c Idle is in stutters_at z s L c Idle Idle refl refl refl (record { call = f.call; here = f.here })
+  preserves_at (point.Enqueue x p) is = preserves_enqueue z s L c x p is
+  preserves_at (point.Dequeue p) is = preserves_dequeue z s L c p is
+  preserves_at (point.Batch d p) is = preserves_batch z s L c d p is
+  preserves_at (point.Help h p) is = preserves_help z s L c h p is
+  preserves_at (point.Answer p) is = preserves_answer z s L c p is
 
   -- THE core theorem: a step of any caller keeps the lane lawful
-  pub keeps_next : Lawful z (next z s c)
+  pub preserves_next : Lawful z (next z s c)
   unfolding next
-  keeps_next = keeps_at (s.callers c).turn refl
+  preserves_next = preserves_at (s.callers c).point refl
 
   -- the caller c goes on as k, and nothing else changes
-  replaced : (k : Caller) → Plain z L.ghost c → Unmade z L.ghost.stage c k → OwnGroups c s.history k (L.ghost.landed c) → Allowed z k.mine k.ops k.taken k.made → Each z (world s L.ghost) c (facts z c k) → Lawful z record { memory = s.memory; history = s.history; callers = put s.callers c k }
+  replaced : (k : Caller) → Plain z L.ghost c → Unmade z L.ghost.stage c k → OwnGroups c s.history k (L.ghost.linearized c) → Allowed z k.mine k.ops k.taken k.made → Knows z (world s L.ghost) c k → Lawful z record { memory = s.memory; history = s.history; callers = put s.callers c k }
   replaced k plain unmade groups allowed knows = record {
     ghost = L.ghost;
     history = L.history;
     queue = L.queue;
-    rows = L.rows;
-    item_rows = L.item_rows;
-    head = L.head;
-    tail = L.tail;
-    counts = L.counts;
-    links = L.links;
+    list = L.list;
     announced = L.announced;
     told = told_plain z s L c s.memory L.ghost k plain L.told;
     pending = waits_plain z s L c s.memory L.ghost k plain (waits_there z s L c) L.pending;
-    unmade = put_all s.callers c k (λ d y. Unmade z L.ghost.stage d y) unmade (λ d _. L.unmade d);
-    own_groups = put_all s.callers c k (λ d y. OwnGroups d s.history y (L.ghost.landed d)) groups (λ d _. L.own_groups d);
-    allowed = put_all s.callers c k (λ d y. Allowed z y.mine y.ops y.taken y.made) allowed (λ d _. L.allowed d);
-    kept_facts = put_all s.callers c k (λ d y. Each z (world s L.ghost) d (facts z d y)) knows (λ d _. L.kept_facts d);
+    callers = put_all s.callers c k (λ d y. OfCaller z (world s L.ghost) d y) (record { unmade = unmade; own_groups = groups; allowed = allowed; knows = knows }) (λ d _. L.callers d);
   }
 
-  module _ (idle : (s.callers c).turn ≡ Idle) (none : (s.callers c).ops ≡ []) (known_caller : c < z.callers) where
-    quiet_now : Holds z (world s L.ghost) c (landed_is false)
-    quiet_now = (known z s L c Idle idle).0
+  module _ (idle : (s.callers c).point ≡ Idle) (none : (s.callers c).ops ≡ []) (known_caller : c < z.callers) where
+    nothing_yet : Holds z (world s L.ghost) c (linearized_is false)
+    nothing_yet = (known z s L c Idle idle).call.0
 
-    off : L.ghost.landed c ≡ false
-    off = quiet_now.0
+    off : L.ghost.linearized c ≡ false
+    off = nothing_yet.0
 
-    same_groups : (k : Caller) → k.mine ≡ (s.callers c).mine → OwnGroups c s.history k (L.ghost.landed c)
-    same_groups k same = L.own_groups c ∙ (ap (λ (b : Bool). (s.callers c).mine ++ cond b (own_group c (s.callers c) ∷ []) []) off
+    same_groups : (k : Caller) → k.mine ≡ (s.callers c).mine → OwnGroups c s.history k (L.ghost.linearized c)
+    same_groups k same = (L.callers c).own_groups ∙ (ap (λ (b : Bool). (s.callers c).mine ++ cond b (own_group c (s.callers c) ∷ []) []) off
         ∙ (ap (λ (gs : List Group). gs ++ []) (sym same) ∙ ap (λ (b : Bool). k.mine ++ cond b (own_group c k ∷ []) []) (sym off)))
 
     kept_as : (k : Caller) → k.outcome ≡ (s.callers c).outcome → k.answers ≡ (s.callers c).answers → k.mine ≡ (s.callers c).mine → k.ended_at ≡ None → Kept s.history c k
-    kept_as k outcome answers mine' end = let K = (L.kept_facts c).1.1.0 in record {
+    kept_as k outcome answers mine' end = let K = (L.callers c).knows.last in record {
       none = λ no. answers ∙ K.none (λ is. no (outcome ∙ is));
       done = λ is. let y = K.done (sym outcome ∙ is) in record {
         earlier = y.earlier;
         ops = y.ops;
         last = mine' ∙ y.last;
-        stands = record { before = y.stands.before; behind = y.stands.behind; place = y.stands.place; right = answers ∙ y.stands.right };
+        stands = record { before = y.stands.before; behind = y.stands.behind; splits = y.stands.splits; right = answers ∙ y.stands.right };
         timely = λ n e. absurd (nothing n (sym end ∙ e));
       };
     } where
@@ -150,39 +107,36 @@ module _ (z : Lane) (s : State) (L : Lawful z s) (c : ℕ) where
 
       row_there : (l : ℕ) → l < enqueue_count (op ∷ op' ∷ ops) → Owns z (world s L.ghost) c (item z c (s.callers c).taken + l)
       row_there l below = let room = (rows_left all left).0 in subst (Owns z (world s L.ghost) c) (let e : item z c ((s.callers c).taken + l) ≡ item z c (s.callers c).taken + l = omega arith in e)
-          ((L.kept_facts c).0 ((s.callers c).taken + l) (omega arith) (omega arith) known_caller)
+          ((L.callers c).knows.unused ((s.callers c).taken + l) (omega arith) (omega arith) known_caller)
 
       ann_inside : own_ann z c (s.callers c).made < z.callers * z.callers
       ann_inside = let below = made_below in let most : suc c * z.callers ≤ z.callers * z.callers = mul-le-mul_right z.callers known_caller in let e : suc c * z.callers ≡ c * z.callers + z.callers = omega (arith, Rattle.std.proofs.Math.Nat.suc-mul c z.callers) in omega arith
 
-      batch_knows : Each z (world s L.ghost) c (turn_facts z c k (first_turn z c (s.callers c) (op ∷ op' ∷ ops)))
-      batch_knows = let one = one_ann in (
-        quiet_now,
-        (
-          (known_caller, (refl, refl, refl, refl, refl, refl), some, (let e = some in omega arith), (λ i from e. absurd (omega arith)), ann_inside),
+      batch_knows : AtPoint z (world s L.ghost) c k (first_point z c (s.callers c) (op ∷ op' ∷ ops))
+      batch_knows = let one = one_ann in record {
+        call = (nothing_yet, ((known_caller, (refl, refl, refl, refl, refl, refl), some, (let e = some in omega arith), (λ i from e. absurd (omega arith)), ann_inside), tt));
+        here = (
+          ((λ l below. let r = row_there l below in (r.at_home, r.inside, r.unlinked, r.is_item)), (λ l x below from e. absurd (omega arith)), (λ l _ less. absurd (omega arith)), (λ l _ less. absurd (omega arith)), λ l below _. (row_there l below).nil),
           (
-            ((λ l below. let r = row_there l below in (r.at_home, r.inside, r.unlinked, r.is_item)), (λ l x below from e. absurd (omega arith)), (λ l _ less. absurd (omega arith)), (λ l _ less. absurd (omega arith)), λ l below _. (row_there l below).nil),
-            (
-              (L.unmade c (s.callers c).made (le_refl _) made_below, div-mul-add c z.callers (s.callers c).made made_below, tt),
-              ((some, refl), tt),
-            ),
+            ((L.callers c).unmade (s.callers c).made (le_refl _) made_below, div-mul-add c z.callers (s.callers c).made made_below, tt),
+            (record { inside = some; row = (let e : item z c (s.callers c).taken ≡ item z c (s.callers c).taken + 0 = omega arith in e); value = refl }, tt),
           ),
-        ),
-      )
+        );
+      }
 
-    started_turn : (ops : List Op) → IsCommand ops → has_rows z (s.callers c) ops ≡ true → Each z (world s L.ghost) c (turn_facts z c (started z (length s.history) c (s.callers c) ops) (first_turn z c (s.callers c) ops))
-    started_turn [] is left = let some = is.0 in absurd (omega arith)
-    started_turn (Enq v ∷ []) is left = let room = (rows_left (Enq v ∷ []) left).0 in
-        (quiet_now, ((refl, known_caller), (((L.kept_facts c).0 (s.callers c).taken (le_refl _) (omega arith) known_caller, λ i from same. absurd (omega arith)), tt)))
-    started_turn (Deq ∷ []) is left = (quiet_now, ((refl, known_caller), tt))
-    started_turn (op ∷ op' ∷ ops) is left = batch_knows op op' ops (is.1 (omega arith)) left
+    started_point : (ops : List Op) → IsCommand ops → has_rows z (s.callers c) ops ≡ true → AtPoint z (world s L.ghost) c (started z (length s.history) c (s.callers c) ops) (first_point z c (s.callers c) ops)
+    started_point [] is left = let some = is.0 in absurd (omega arith)
+    started_point (Enq v ∷ []) is left = let room = (rows_left (Enq v ∷ []) left).0 in
+        record { call = (nothing_yet, ((refl, known_caller), (((L.callers c).knows.unused (s.callers c).taken (le_refl _) (omega arith) known_caller, λ i from same. absurd (omega arith)), tt))); here = tt }
+    started_point (Deq ∷ []) is left = record { call = (nothing_yet, ((refl, known_caller), tt)); here = tt }
+    started_point (op ∷ op' ∷ ops) is left = batch_knows op op' ops (is.1 (omega arith)) left
 
-    started_knows : (ops : List Op) → IsCommand ops → has_rows z (s.callers c) ops ≡ true → Each z (world s L.ghost) c (facts z c (started z (length s.history) c (s.callers c) ops))
+    started_knows : (ops : List Op) → IsCommand ops → has_rows z (s.callers c) ops ≡ true → Knows z (world s L.ghost) c (started z (length s.history) c (s.callers c) ops)
     started_knows ops is left = let k = started z (length s.history) c (s.callers c) ops in
-        ((λ i from below at. (L.kept_facts c).0 i (omega arith) below at), (le_refl _, (kept_as k refl refl refl refl, started_turn ops is left)))
+        record { unused = λ i from below at. (L.callers c).knows.unused i (omega arith) below at; started = le_refl _; last = kept_as k refl refl refl refl; at_point = started_point ops is left }
 
     started_allowed : (ops : List Op) → has_rows z (s.callers c) ops ≡ true → ¬ (PassesAllowance z (s.callers c) (length ops)) → Allowed z (s.callers c).mine ops ((s.callers c).taken + enqueue_count ops) ((s.callers c).made + anns_taken ops)
-    started_allowed ops row left = let rows = (L.allowed c).rows ∙ ap (λ (old : List Op). enqueue_count (operations (s.callers c).mine) + enqueue_count old) none in let anns = (L.allowed c).anns ∙ ap (λ (old : List Op). many_count (s.callers c).mine + anns_taken old) none in record {
+    started_allowed ops row left = let rows = (L.callers c).allowed.rows ∙ ap (λ (old : List Op). enqueue_count (operations (s.callers c).mine) + enqueue_count old) none in let anns = (L.callers c).allowed.anns ∙ ap (λ (old : List Op). many_count (s.callers c).mine + anns_taken old) none in record {
       within = by left;
       rows = (let e : (s.callers c).taken ≡ enqueue_count (operations (s.callers c).mine) + 0 = rows in omega arith);
       has_rows = (rows_left ops row).0;
@@ -195,21 +149,21 @@ module _ (z : Lane) (s : State) (L : Lawful z s) (c : ℕ) where
     pub started_lawful : (ops : List Op) → IsCommand ops → has_rows z (s.callers c) ops ≡ true → ¬ (PassesAllowance z (s.callers c) (length ops))
         → Lawful z record { memory = s.memory; history = s.history; callers = put s.callers c (started z (length s.history) c (s.callers c) ops) }
     started_lawful ops is row left = let k : Caller = started z (length s.history) c (s.callers c) ops in
-        replaced k quiet_now.1 (λ i from. L.unmade c i (omega arith)) (same_groups k refl) (started_allowed ops row left) (started_knows ops is row)
+        replaced k nothing_yet.1 (λ i from. (L.callers c).unmade i (omega arith)) (same_groups k refl) (started_allowed ops row left) (started_knows ops is row)
 
-  pub no_operation : (s.callers c).turn ≡ Idle → (s.callers c).ops ≡ []
-  no_operation idle = (known z s L c Idle idle).1.0.0
+  pub no_operation : (s.callers c).point ≡ Idle → (s.callers c).ops ≡ []
+  no_operation idle = (known z s L c Idle idle).here.0.0
 
-  pub refused_lawful : (s.callers c).turn ≡ Idle → c < z.callers → Lawful z record { memory = s.memory; history = s.history; callers = put s.callers c (refused z (length s.history) c (s.callers c)) }
-  refused_lawful idle at = let k : Caller = refused z (length s.history) c (s.callers c) in replaced k (quiet_now idle (no_operation idle) at).1 (L.unmade c) (same_groups idle (no_operation idle) at k refl) (L.allowed c)
-      (let f = L.kept_facts c in let idle_facts : Each z (world s L.ghost) c (facts z c record k { turn = Idle }) = (f.0, (le_refl _, (record { none = λ _. refl; done = λ is. absurd (never is) }, (quiet_now idle (no_operation idle) at, ((no_operation idle, λ _. refl), tt))))) in
-      subst (λ (t : Turn). Each z (world s L.ghost) c (facts z c record k { turn = t })) (sym idle) idle_facts) where
+  pub refused_lawful : (s.callers c).point ≡ Idle → c < z.callers → Lawful z record { memory = s.memory; history = s.history; callers = put s.callers c (refused z (length s.history) c (s.callers c)) }
+  refused_lawful idle at = let k : Caller = refused z (length s.history) c (s.callers c) in replaced k (nothing_yet idle (no_operation idle) at).1 ((L.callers c).unmade) (same_groups idle (no_operation idle) at k refl) (L.callers c).allowed
+      (let f = (L.callers c).knows in let idle_facts : Knows z (world s L.ghost) c record k { point = Idle } = record { unused = f.unused; started = le_refl _; last = record { none = λ _. refl; done = λ is. absurd (never is) }; at_point = record { call = (nothing_yet idle (no_operation idle) at, tt); here = ((no_operation idle, λ _. refl), tt) } } in
+      subst (λ (t : Point). Knows z (world s L.ghost) c record k { point = t }) (sym idle) idle_facts) where
         never : Some Full ≡ Some Done → ⊥
         never e = cc e
 
   -- the start of a command keeps the lane lawful
-  pub keeps_start : (ops : List Op) → IsCommand ops → (s.callers c).turn ≡ Idle → c < z.callers → ¬ (PassesAllowance z (s.callers c) (length ops)) → Lawful z (start z s c ops)
-  keeps_start ops is idle at left = by (has_rows z (s.callers c) ops) refl where
+  pub preserves_start : (ops : List Op) → IsCommand ops → (s.callers c).point ≡ Idle → c < z.callers → ¬ (PassesAllowance z (s.callers c) (length ops)) → Lawful z (start z s c ops)
+  preserves_start ops is idle at left = by (has_rows z (s.callers c) ops) refl where
     by : (b : Bool) → has_rows z (s.callers c) ops ≡ b → Lawful z record { memory = s.memory; history = s.history; callers = put s.callers c (cond b (started z (length s.history) c (s.callers c) ops) (refused z (length s.history) c (s.callers c))) }
     by true row = started_lawful idle (no_operation idle) at ops is row left
     by false row = refused_lawful idle at

@@ -1,25 +1,22 @@
 -- The tail moves by one over a Single link.
-use Rattle.std.proofs.Common.{◌≡◌, inr, ⊎_elim, ◌*◌, ℕ, suc, ◌+◌, ◌≤◌, Bool, true, false, cond, List, [], ◌∷◌, length, sym, refl, ap, ◌∙◌, subst, arith, le_refl}
+use Rattle.std.proofs.Common.{◌≡◌, inr, ⊎_elim, ◌*◌, ℕ, suc, ◌+◌, ◌≤◌, Bool, true, false, cond, [], sym, refl, ap, ◌∙◌, arith, le_refl}
 use Rattle.std.proofs.lemmas.List.{append-nil}
-use Rattle.bq_model.specs.declared.op.Answer.TheVariants.{Done}
-use Rattle.bq_model.specs.declared.group.Group.{Group}
 use Rattle.word_rows.specs.declared.place.Place.{Place}
 use Rattle.word_rows.specs.declared.location.Location.TheVariants.{Tail}
 use Rattle.word_rows.specs.declared.content.Content.TheVariants.{OfTail}
-use Rattle.core_model.specs.declared.turn.Item.{Item}
-use Rattle.core_model.specs.declared.turn.Turn.TheVariants.{EnqTail, EnqPass, EnqLast, DeqHead, DeqPass}
 use Rattle.core_model.specs.Functions.{put}
-use Rattle.core_model.specs.Lane.{Lane}
+use Rattle.core_model.specs.LaneSizes.{LaneSizes}
 use Rattle.core_model.specs.State.{Memory, Caller, State, write}
-use Rattle.core_model.specs.Step.{turned, ended, same_place, behind, step_at}
+use Rattle.core_model.specs.Act.{same_place, behind}
+use Rattle.core_model.specs.Fact.{next_is, by_single}
+use Rattle.core_model.specs.Facts.{Holds}
 use Rattle.core_model.specs.Ghost.{decided, Ghost, World}
-use Rattle.core_model.specs.Facts.{next_is, by_single, Holds, facts}
 use Rattle.core_model.specs.Lawful.{Lawful}
-use Rattle.core_model.proofs.Stays.{world, anns_same, Grows, all_stay}
-use Rattle.core_model.proofs.Keeps.{known, turns, finishes, changed, same_places, drafts_same}
+use Rattle.core_model.proofs.Stable.{world, anns_same, Rely}
+use Rattle.core_model.proofs.Preserves.{caller_stable, changed, same_places, drafts_same}
 use Rattle.core_model.proofs.Announces.{stages_moved}
 
-module _ (z : Lane) (s : State) (L : Lawful z s) (c : ℕ) where
+module _ (z : LaneSizes) (s : State) (L : Lawful z s) (c : ℕ) where
   abbrev G : Ghost
   G = L.ghost
 
@@ -30,31 +27,30 @@ module _ (z : Lane) (s : State) (L : Lawful z s) (c : ℕ) where
     ghost = G';
     history = L.history;
     queue = L.queue;
-    rows = L.rows;
-    item_rows = L.item_rows;
-    head = L.head;
-    tail = let inside = (next.2 G.tail count).0 in let from = L.tail.after_head in let lags = L.tail.lags (omega arith) (single G.tail count).1 in let here = count in record {
-      named = λ i. record { row = sym (next.2 G.tail count).1 i; count = (let y : p.count + 1 ≡ z.first + suc G.tail = omega arith in y) i };
-      after_head = omega arith;
-      within = omega arith;
-      lags = λ below _. absurd (omega arith);
+    list = record {
+      rows = L.list.rows;
+      item_rows = L.list.item_rows;
+      head = L.list.head;
+      tail = let inside = (next.2 G.tail count).0 in let from = L.list.tail.after_head in let lags = L.list.tail.lags (omega arith) (single G.tail count).1 in let here = count in record {
+        named = λ i. record { row = sym (next.2 G.tail count).1 i; count = (let y : p.count + 1 ≡ z.first + suc G.tail = omega arith in y) i };
+        after_head = omega arith;
+        within = omega arith;
+        lags = λ below _. absurd (omega arith);
+      };
+      counts = L.list.counts;
+      links = L.list.links;
     };
-    counts = L.counts;
-    links = L.links;
-    announced = stages_moved z.first (z.callers * z.callers) G.stage G.ann s.memory.said s.memory.old_tail G.path G.path G.chained G.chained G.cause G.head G.head (G.head + G.rest) (G.head + G.rest) G.shown G.shown G.tail (suc G.tail)
+    announced = stages_moved z.first (z.callers * z.callers) G.stage G.ann s.memory.notice s.memory.old_tail G.path G.path G.chained G.chained G.cause G.head G.head (G.head + G.rest) (G.head + G.rest) G.shown G.shown G.tail (suc G.tail)
         (le_refl _) (omega arith) (λ _ _. refl) (λ _ _. refl) (omega arith) (λ _ _. (refl, refl))
-        (λ a i e f. ⊎_elim (λ (here : G.tail ≡ i). absurd (not_here a i f here)) (λ (past : i + (s.memory.said a).counts.enqs ≤ G.tail). inr (omega arith)) (L.announced.standing a i e f).tails)
+        (λ a i e f. ⊎_elim (λ (here : G.tail ≡ i). absurd (not_here a i f here)) (λ (past : i + (s.memory.notice a).counts.enqs ≤ G.tail). inr (omega arith)) (L.announced.standing a i e f).tails)
         (λ a i f none. let reached = (L.announced.bound a i f).reached in let before = (L.announced.unrecorded a i f none).1 in absurd (not_here a i f (omega arith)))
-        (λ below _. let inside = (next.2 G.tail count).0 in let last = L.tail.lags (omega arith) (single G.tail count).1 in absurd (omega arith)) L.announced;
+        (λ below _. let inside = (next.2 G.tail count).0 in let last = L.list.tail.lags (omega arith) (single G.tail count).1 in absurd (omega arith)) L.announced;
     told = L.told;
     pending = L.pending;
-    unmade = L.unmade;
-    own_groups = L.own_groups;
-    allowed = L.allowed;
-    kept_facts = λ d. all_stay z (λ _. ⊥) (world s G) W grows d (λ _ _ x. x) refl (drafts_same z (world s G) W refl refl refl d) (facts z d (s.callers d)) (L.kept_facts d);
+    callers = λ d. caller_stable z (λ _. ⊥) (world s G) W rely d (s.callers d) (λ _ _ x. x) (record { linearized = refl; made = refl; drafts = drafts_same z (world s G) W refl refl refl d; unmade = (L.callers d).unmade }) (L.callers d);
   } where
     count : p.count ≡ z.first + G.tail
-    count = ap (λ (q : Place). q.count) (sym is ∙ L.tail.named)
+    count = ap (λ (q : Place). q.count) (sym is ∙ L.list.tail.named)
 
     -- no announcement is decided at a Single link
     not_here : (a i : ℕ) → G.stage a ≡ decided i → G.tail ≡ i → ⊥
@@ -68,8 +64,8 @@ module _ (z : Lane) (s : State) (L : Lawful z s) (c : ℕ) where
     W : World
     W = record { memory = record s.memory { tail = behind p n }; history = s.history; ghost = G' }
 
-    grows : Grows z (λ _. ⊥) (world s G) W
-    grows = record {
+    rely : Rely z (λ _. ⊥) (world s G) W
+    rely = record {
       longer = le_refl _;
       heads = le_refl _;
       tails = omega arith;
@@ -91,22 +87,6 @@ module _ (z : Lane) (s : State) (L : Lawful z s) (c : ℕ) where
   pub exchanges : (p : Place) (n : ℕ) (k : Caller) → Holds z (world s L.ghost) c (next_is p n) → Holds z (world s L.ghost) c (by_single p)
       → ((memory : Memory) → Lawful z (with_memory memory) → Lawful z record { memory = memory; history = s.history; callers = put s.callers c k })
       → (b : Bool) → same_place s.memory.tail p ≡ b
-      → Lawful z (changed s c (write s.memory Tail (cond b (OfTail (behind p n)) (OfTail s.memory.tail))) [] k)
-  exchanges p n k next single goes true is = subst (λ (h : List Group). Lawful z record { memory = record s.memory { tail = behind p n }; history = h; callers = put s.callers c k }) (sym (append-nil s.history))
-      (goes (record s.memory { tail = behind p n }) (advances p n next single (same_places s.memory.tail p is)))
-  exchanges p n k next single goes false is = subst (λ (h : List Group). Lawful z record { memory = s.memory; history = h; callers = put s.callers c k }) (sym (append-nil s.history)) (goes s.memory L)
-
-  pub keeps_enq_pass : (x : Item) (p : Place) (n : ℕ) → (s.callers c).turn ≡ EnqPass x p n → Lawful z (step_at z s c (EnqPass x p n))
-  keeps_enq_pass x p n is = let f = known z s L c (EnqPass x p n) is in exchanges p n (turned (s.callers c) (EnqTail x)) f.1.1.1.1.0 f.1.1.1.1.1.0
-      (λ memory l. let h = known z (with_memory memory) l c (EnqPass x p n) is in turns z (with_memory memory) l c (EnqTail x) (h.0, (h.1.0, (h.1.1.0, (h.1.1.1.0, tt))))) (same_place s.memory.tail p) refl
-
-  pub keeps_deq_pass : (p : Place) (n : ℕ) → (s.callers c).turn ≡ DeqPass p n → Lawful z (step_at z s c (DeqPass p n))
-  keeps_deq_pass p n is = let f = known z s L c (DeqPass p n) is in exchanges p n (turned (s.callers c) DeqHead) f.1.1.0 f.1.1.1.0
-      (λ memory l. let h = known z (with_memory memory) l c (DeqPass p n) is in turns z (with_memory memory) l c DeqHead (h.0, (h.1.0, tt))) (same_place s.memory.tail p) refl
-
-  -- the enqueue is done, as the history was
-  pub keeps_enq_last : (p : Place) (n : ℕ) → (s.callers c).turn ≡ EnqLast p n → Lawful z (step_at z s c (EnqLast p n))
-  keeps_enq_last p n is = let f = known z s L c (EnqLast p n) is in subst (λ (m : ℕ). Lawful z (changed s c (write s.memory Tail (cond (same_place s.memory.tail p) (OfTail (behind p n)) (OfTail s.memory.tail))) [] (ended m c (s.callers c) (Done ∷ []))))
-      (ap length (sym (append-nil s.history)))
-      (exchanges p n (ended (length s.history) c (s.callers c) (Done ∷ [])) f.1.0 f.1.1.0
-      (λ memory l. let h = known z (with_memory memory) l c (EnqLast p n) is in let a = h.1.1.1.0 in finishes z (with_memory memory) l c (Done ∷ []) h.0.0 h.0.1 a.0 a.1) (same_place s.memory.tail p) refl)
+      → Lawful z (changed s c (write s.memory Tail (cond b (OfTail (behind p n)) (OfTail s.memory.tail))) s.history k)
+  exchanges p n k next single goes true is = goes (record s.memory { tail = behind p n }) (advances p n next single (same_places s.memory.tail p is))
+  exchanges p n k next single goes false is = goes s.memory L

@@ -6,22 +6,27 @@ use Rattle.bq_model.specs.declared.op.Answer.TheVariants.{Done, Got, Empty}
 use Rattle.bq_model.specs.declared.group.Group.{Group}
 use Rattle.excess_count.specs.Excess.{excess_of}
 use Rattle.word_rows.specs.declared.head_word.HeadWord.TheVariants.{Node}
-use Rattle.core_model.specs.declared.turn.Turn.{Turn}
-use Rattle.core_model.specs.declared.turn.Turn.TheVariants.{Idle, EnqLast, DeqPass, LinkChain, HelpOldHead}
-use Rattle.core_model.specs.declared.turn.CallEnd.TheVariants as outcome
-use Rattle.core_model.specs.Lane.{Lane}
+use Rattle.core_model.specs.declared.point.Point.{Point}
+use Rattle.core_model.specs.declared.point.Point.TheVariants.{Idle}
+use Rattle.core_model.specs.declared.point.DequeuePoint.TheVariants as deq
+use Rattle.core_model.specs.declared.point.Point.TheVariants as point
+use Rattle.core_model.specs.declared.point.EnqueuePoint.TheVariants as enq
+use Rattle.core_model.specs.declared.point.HelpPoint.TheVariants as help
+use Rattle.core_model.specs.declared.point.CallEnd.TheVariants as outcome
+use Rattle.core_model.specs.LaneSizes.{LaneSizes}
 use Rattle.core_model.specs.Notices.{place}
 use Rattle.core_model.specs.State.{State}
-use Rattle.core_model.specs.declared.turn.Back.TheVariants as back
-use Rattle.core_model.specs.Step.{next, help_of}
+use Rattle.core_model.specs.Help.{help_of}
+use Rattle.core_model.specs.Step.{next}
+use Rattle.core_model.specs.declared.point.Back.TheVariants as back
 use Rattle.core_model.specs.Start.{start, opening}
 
 -- two callers with two item rows each
-abbrev two : Lane
+abbrev two : LaneSizes
 two = record { callers = 2; first = 5; allowance = 10; rows = 5; items = 2; first_row = λ c. 1 + c * 2; home = λ r. (r - 1) / 2 }
 
 -- n steps of caller c; a caller that is idle makes none
-steps : Lane → ℕ → ℕ → State → State
+steps : LaneSizes → ℕ → ℕ → State → State
 steps z c zero s = s
 steps z c (suc n) s = steps z c n (next z s c)
 
@@ -33,7 +38,7 @@ abbrev lagging : State
 lagging = steps two 0 4 (start two (opening two) 0 (Enq 7 ∷ []))
 
 -- the enqueue stands in the history before its command ends
-lags : ((lagging.callers 0).turn ≡ EnqLast (place 0 5) 1) × (lagging.history ≡ group 0 0 (Enq 7) ∷ []) × ((lagging.callers 0).mine ≡ [])
+lags : ((lagging.callers 0).point ≡ point.Enqueue (record { row = 1; value = 7 }) (enq.MoveTail (place 0 5) 1)) × (lagging.history ≡ group 0 0 (Enq 7) ∷ []) × ((lagging.callers 0).mine ≡ [])
 unfolding steps next
 lags = (refl, refl, refl)
 
@@ -41,11 +46,11 @@ lags = (refl, refl, refl)
 abbrev dequeued : State
 dequeued = steps two 1 9 (start two lagging 1 (Deq ∷ []))
 
-helped : ((steps two 1 3 (start two lagging 1 (Deq ∷ []))).callers 1).turn ≡ DeqPass (place 0 5) 1
+helped : ((steps two 1 3 (start two lagging 1 (Deq ∷ []))).callers 1).point ≡ point.Dequeue (deq.PassTail (place 0 5) 1)
 unfolding steps next
 helped = refl
 
-gets : ((dequeued.callers 1).turn ≡ Idle) × ((dequeued.callers 1).answers ≡ Got 7 ∷ []) × (dequeued.history ≡ group 0 0 (Enq 7) ∷ group 1 0 Deq ∷ []) × (dequeued.memory.head ≡ Node (place 1 6))
+gets : ((dequeued.callers 1).point ≡ Idle) × ((dequeued.callers 1).answers ≡ Got 7 ∷ []) × (dequeued.history ≡ group 0 0 (Enq 7) ∷ group 1 0 Deq ∷ []) × (dequeued.memory.head ≡ Node (place 1 6))
 unfolding steps next
 gets = (refl, refl, refl, refl)
 
@@ -55,18 +60,18 @@ unfolding steps next
 done = (refl, refl, refl)
 
 -- the third enqueue of a caller with two rows ends with Full and makes no step
-full : let s : State = start two (steps two 0 5 (start two (steps two 0 5 (start two (opening two) 0 (Enq 1 ∷ []))) 0 (Enq 2 ∷ []))) 0 (Enq 3 ∷ []) in ((s.callers 0).turn ≡ Idle) × ((s.callers 0).outcome ≡ Some outcome.Full) × ((s.callers 0).taken ≡ 2)
+full : let s : State = start two (steps two 0 5 (start two (steps two 0 5 (start two (opening two) 0 (Enq 1 ∷ []))) 0 (Enq 2 ∷ []))) 0 (Enq 3 ∷ []) in ((s.callers 0).point ≡ Idle) × ((s.callers 0).outcome ≡ Some outcome.Full) × ((s.callers 0).taken ≡ 2)
 unfolding steps next
 full = (refl, refl, refl)
 
 -- A caller makes steps, n at most, until its next one links a chain.
-links_chain : Turn → Bool
-links_chain (LinkChain h p) = true
+links_chain : Point → Bool
+links_chain (point.Help h (help.LinkChain p)) = true
 links_chain _ = false
 
-until_link : Lane → ℕ → ℕ → State → State
+until_link : LaneSizes → ℕ → ℕ → State → State
 until_link z c zero s = s
-until_link z c (suc n) s = cond (links_chain (s.callers c).turn) s (until_link z c n (next z s c))
+until_link z c (suc n) s = cond (links_chain (s.callers c).point) s (until_link z c n (next z s c))
 
 -- The batch Deq, Enq 5, Enq 6, Deq on the empty lane: it is announced, and its owner finishes it.
 abbrev four : List Op
@@ -75,7 +80,7 @@ four = Deq ∷ Enq 5 ∷ Enq 6 ∷ Deq ∷ []
 abbrev batch_group : ℕ → ℕ → List Op → Group
 batch_group c batch ops = record { caller = c; batch = batch; ops = ops }
 
-alone : let s : State = steps two 1 40 (start two (opening two) 1 four) in ((s.callers 1).turn ≡ Idle) × ((s.callers 1).answers ≡ Empty ∷ Done ∷ Done ∷ Got 5 ∷ []) × (s.history ≡ batch_group 1 0 four ∷ []) × ((s.callers 1).mine ≡ batch_group 1 0 four ∷ []) × ((s.memory.head) ≡ Node (place 3 6)) × (s.memory.tail ≡ place 4 7)
+alone : let s : State = steps two 1 40 (start two (opening two) 1 four) in ((s.callers 1).point ≡ Idle) × ((s.callers 1).answers ≡ Empty ∷ Done ∷ Done ∷ Got 5 ∷ []) × (s.history ≡ batch_group 1 0 four ∷ []) × ((s.callers 1).mine ≡ batch_group 1 0 four ∷ []) × ((s.memory.head) ≡ Node (place 3 6)) × (s.memory.tail ≡ place 4 7)
 unfolding steps next excess_of
 alone = (refl, refl, refl, refl, refl, refl)
 
@@ -83,21 +88,21 @@ alone = (refl, refl, refl, refl, refl, refl)
 abbrev helping : State
 helping = steps two 0 40 (start two (steps two 1 15 (start two (opening two) 1 four)) 0 (Deq ∷ []))
 
-installed : ((steps two 1 15 (start two (opening two) 1 four)).callers 1).turn ≡ HelpOldHead (help_of 2 back.Own)
+installed : ((steps two 1 15 (start two (opening two) 1 four)).callers 1).point ≡ point.Help (help_of 2 back.Own) help.LoadOldHead
 unfolding steps next excess_of
 installed = refl
 
-finished : (helping.history ≡ batch_group 1 0 four ∷ batch_group 0 0 (Deq ∷ []) ∷ []) × ((helping.callers 0).answers ≡ Got 6 ∷ []) × ((helping.callers 1).mine ≡ []) × ((helping.callers 1).turn ≡ HelpOldHead (help_of 2 back.Own))
+finished : (helping.history ≡ batch_group 1 0 four ∷ batch_group 0 0 (Deq ∷ []) ∷ []) × ((helping.callers 0).answers ≡ Got 6 ∷ []) × ((helping.callers 1).mine ≡ []) × ((helping.callers 1).point ≡ point.Help (help_of 2 back.Own) help.LoadOldHead)
 unfolding steps next excess_of
 finished = (refl, refl, refl, refl)
 
 -- the owner's own steps then find the same answers
-reads : let s : State = steps two 1 40 helping in ((s.callers 1).turn ≡ Idle) × ((s.callers 1).answers ≡ Empty ∷ Done ∷ Done ∷ Got 5 ∷ []) × (s.history ≡ helping.history) × ((s.callers 1).mine ≡ batch_group 1 0 four ∷ [])
+reads : let s : State = steps two 1 40 helping in ((s.callers 1).point ≡ Idle) × ((s.callers 1).answers ≡ Empty ∷ Done ∷ Done ∷ Got 5 ∷ []) × (s.history ≡ helping.history) × ((s.callers 1).mine ≡ batch_group 1 0 four ∷ [])
 unfolding steps next excess_of
 reads = (refl, refl, refl, refl)
 
 -- lanes with eight item rows for each caller
-abbrev wide : ℕ → Lane
+abbrev wide : ℕ → LaneSizes
 wide callers = record { callers = callers; first = 0; allowance = 100; rows = 1 + callers * 8; items = 8; first_row = λ c. 1 + c * 8; home = λ r. (r - 1) / 8 }
 
 -- caller 0 is about to link its chain
@@ -106,7 +111,7 @@ ready callers = until_link (wide callers) 0 60 (start (wide callers) (opening (w
 
 -- caller 1 finishes the batch of caller 0, which is still unfinished there
 takes_over : let s : State = steps (wide 2) 1 60 (start (wide 2) (ready 2) 1 (Deq ∷ [])) in (s.history ≡ batch_group 0 0 (Enq 5 ∷ Enq 6 ∷ Deq ∷ []) ∷ batch_group 1 0 (Deq ∷ []) ∷ [])
-    × ((s.callers 1).answers ≡ Got 6 ∷ []) × ((s.callers 0).turn ≡ (((ready 2).callers 0).turn)) × ((s.callers 0).mine ≡ [])
+    × ((s.callers 1).answers ≡ Got 6 ∷ []) × ((s.callers 0).point ≡ (((ready 2).callers 0).point)) × ((s.callers 0).mine ≡ [])
 unfolding steps until_link links_chain next excess_of
 takes_over = (refl, refl, refl, refl)
 
@@ -120,7 +125,7 @@ batches = steps (wide 3) 0 60 (start (wide 3) (steps (wide 3) 0 60 (start (wide 
 abbrev late_history : List Group
 late_history = batch_group 0 0 (Enq 5 ∷ Enq 6 ∷ Deq ∷ []) ∷ batch_group 0 1 (Enq 7 ∷ Enq 8 ∷ []) ∷ batch_group 0 2 (Enq 1 ∷ Deq ∷ Deq ∷ []) ∷ []
 
-helper_waits : links_chain (stopped.callers 1).turn ≡ true
+helper_waits : links_chain (stopped.callers 1).point ≡ true
 unfolding steps until_link links_chain next excess_of
 helper_waits = refl
 
@@ -140,6 +145,6 @@ late_dequeue = (refl, refl)
 
 -- a third batch of a caller with two announcements ends with Full and makes no step, and so does one whose rows aren't there
 full_batches : let s : State = steps (wide 2) 0 60 (start (wide 2) (steps (wide 2) 0 60 (start (wide 2) (opening (wide 2)) 0 (Enq 1 ∷ Deq ∷ []))) 0 (Enq 2 ∷ Deq ∷ [])) in
-    (((start (wide 2) s 0 (Enq 3 ∷ Deq ∷ [])).callers 0).outcome ≡ Some outcome.Full) × (((start (wide 2) s 0 (Enq 3 ∷ Deq ∷ [])).callers 0).turn ≡ Idle) × (((start two (opening two) 0 (Enq 1 ∷ Enq 2 ∷ Enq 3 ∷ [])).callers 0).outcome ≡ Some outcome.Full)
+    (((start (wide 2) s 0 (Enq 3 ∷ Deq ∷ [])).callers 0).outcome ≡ Some outcome.Full) × (((start (wide 2) s 0 (Enq 3 ∷ Deq ∷ [])).callers 0).point ≡ Idle) × (((start two (opening two) 0 (Enq 1 ∷ Enq 2 ∷ Enq 3 ∷ [])).callers 0).outcome ≡ Some outcome.Full)
 unfolding steps next excess_of
 full_batches = (refl, refl, refl)

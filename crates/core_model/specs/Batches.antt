@@ -10,15 +10,15 @@ use Rattle.excess_count.specs.Counts.{successes_of}
 use Rattle.excess_count.specs.Excess.{enqueue_count, dequeue_count, excess_of}
 use Rattle.word_rows.specs.declared.batch_words.BatchCounts.{BatchCounts}
 use Rattle.word_rows.specs.Order.{order_word_of}
-use Rattle.core_model.specs.declared.turn.Notice.{Notice}
-use Rattle.core_model.specs.Lane.{Lane}
+use Rattle.core_model.specs.declared.point.Notice.{Notice}
+use Rattle.core_model.specs.LaneSizes.{LaneSizes}
 use Rattle.core_model.specs.Notices.{place, batch_counts, batch_number}
 
 -- each caller has as many announcements as there are callers
-abbrev pub own_ann : Lane → ℕ → ℕ → ℕ
+abbrev pub own_ann : LaneSizes → ℕ → ℕ → ℕ
 own_ann z c i = c * z.callers + i
 
-abbrev pub owner_of : Lane → ℕ → ℕ
+abbrev pub owner_of : LaneSizes → ℕ → ℕ
 owner_of z a = a / z.callers
 
 -- the counts of operations, as an announcement has them

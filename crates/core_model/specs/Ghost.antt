@@ -33,7 +33,7 @@ pub record Ghost : Type 0 where
   pub shown : ℕ
   pub queued : ℕ
   -- the running command of a caller stands in the history
-  pub landed : ℕ → Bool
+  pub linearized : ℕ → Bool
   -- how far each announcement is, and the rows of the one that waits, in order
   pub stage : ℕ → Stage
   pub chain : ℕ → ℕ
@@ -41,8 +41,8 @@ pub record Ghost : Type 0 where
   pub cause : ℕ → ℕ
 
 -- how many places there are
-abbrev pub places : Ghost → ℕ
-places g = suc (g.head + g.rest)
+abbrev pub positions : Ghost → ℕ
+positions g = suc (g.head + g.rest)
 
 -- the words and the history, with what they don't say
 pub record World : Type 0 where
@@ -64,12 +64,12 @@ Unlinked w r = w.ghost.spot r ≡ None
 
 -- the link of r is that of the row at the place i
 abbrev pub LinkAt : World → ℕ → ℕ → Type 0
-LinkAt w i r = (suc i ≡ places w.ghost → w.memory.link r ≡ Nil)
-    × (suc i < places w.ghost → w.memory.link r ≡ joint (w.ghost.chained i) (w.ghost.path (suc i)))
+LinkAt w i r = (suc i ≡ positions w.ghost → w.memory.link r ≡ Nil)
+    × (suc i < positions w.ghost → w.memory.link r ≡ joint (w.ghost.chained i) (w.ghost.path (suc i)))
 
 -- the row r is at the place i
 abbrev pub On : World → ℕ → ℕ → Type 0
-On w i r = (i < places w.ghost) × (w.ghost.spot r ≡ Some i) × (w.ghost.path i ≡ r) × LinkAt w i r
+On w i r = (i < positions w.ghost) × (w.ghost.spot r ≡ Some i) × (w.ghost.path i ≡ r) × LinkAt w i r
 
 abbrev pub Installed : World → ℕ → Type 0
 Installed w a = w.ghost.stage a ≢ unused

@@ -5,14 +5,14 @@ use Rattle.bq_model.specs.declared.op.Answer.{Answer}
 use Rattle.bq_model.specs.declared.group.Group.{Group}
 use Rattle.bq_model.specs.Replay.{answers_from}
 use Rattle.bq_model.specs.History.{last_queue}
-use Rattle.core_model.specs.declared.turn.CallEnd.TheVariants as outcome
+use Rattle.core_model.specs.declared.point.CallEnd.TheVariants as outcome
 use Rattle.core_model.specs.State.{Caller}
 
--- the group stands in the history, and these are its answers: the replay's at its place
+-- the group stands in the history, and these are its answers: the replay's there
 pub record Stands (h : List Group) (g : Group) (answers : List Answer) : Type 0 where
   pub before : List Group
   pub behind : List Group
-  pub place : h ≡ (before ++ g ∷ []) ++ behind
+  pub splits : h ≡ (before ++ g ∷ []) ++ behind
   pub right : answers ≡ answers_from (last_queue before) g.ops
 
 -- the group of caller c that comes after these of its groups

@@ -12,19 +12,18 @@ use Rattle.word_rows.specs.declared.head_word.HeadWord.{HeadWord}
 use Rattle.word_rows.specs.declared.head_word.HeadWord.TheVariants.{Node, Ann}
 use Rattle.word_rows.specs.declared.link_word.LinkWord.{LinkWord}
 use Rattle.word_rows.specs.declared.link_word.LinkWord.TheVariants.{Nil, Single, Chain}
-use Rattle.core_model.specs.declared.turn.Notice.{Notice}
-use Rattle.core_model.specs.declared.turn.Back.{Back}
-use Rattle.core_model.specs.declared.turn.Back.TheVariants as back
-use Rattle.core_model.specs.declared.turn.Turn.{Turn}
-use Rattle.core_model.specs.declared.turn.Turn.TheVariants.{HelpOldHead, HelpFirst, HelpLast, HelpCounts, HelpTail, HelpOldTail, HelpLink, LinkChain, HelpPass, RecordTail, HelpOver, MoveTailOver, HelpWalk, MoveHeadAnn}
+use Rattle.core_model.specs.declared.point.Notice.{Notice}
+use Rattle.core_model.specs.declared.point.Back.{Back}
+use Rattle.core_model.specs.declared.point.Back.TheVariants as back
+use Rattle.core_model.specs.declared.point.Point.{Point}
+use Rattle.core_model.specs.declared.point.Point.TheVariants as point
 use Rattle.core_model.specs.Functions.{run}
-use Rattle.core_model.specs.Lane.{Lane, item, IsItem}
+use Rattle.core_model.specs.LaneSizes.{LaneSizes, item, IsItem}
 use Rattle.core_model.specs.Batches.{own_ann, owner_of, gets, many_count}
-use Rattle.core_model.specs.State.{Memory, Caller, State, command}
+use Rattle.core_model.specs.State.{Memory, Caller, State, command, own_group}
 use Rattle.core_model.specs.Start.{anns_taken}
-use Rattle.core_model.specs.Step.{own_group}
-use Rattle.core_model.specs.Ghost.{Stage, unused, waiting, decided, Ghost, joint, at}
-use Rattle.core_model.specs.Facts.{Tells, Each, facts}
+use Rattle.core_model.specs.Ghost.{Stage, unused, waiting, decided, Ghost, World, joint, at}
+use Rattle.core_model.specs.Facts.{Describes, Knows}
 
 -- the values of the rows behind the shown head, first to last
 abbrev pub shown_queue : (ℕ → ℕ) → Ghost → List ℕ
@@ -40,7 +39,7 @@ pub record Listed (rows : ℕ) (link : ℕ → LinkWord) (path : ℕ → ℕ) (c
   pub inside : (i : ℕ) → i < suc (head + rest) → path i < rows
 
 -- the rows behind the shown head are item rows
-abbrev pub ItemRows : Lane → (ℕ → ℕ) → ℕ → ℕ → ℕ → Type 0
+abbrev pub ItemRows : LaneSizes → (ℕ → ℕ) → ℕ → ℕ → ℕ → Type 0
 ItemRows z path head rest shown = (i : ℕ) → head + shown < i → i < suc (head + rest) → IsItem z (path i)
 
 -- TAIL names a row at or behind the dummy, and one row at most lies behind it where its link is Single
@@ -62,11 +61,11 @@ pub record Headed (first : ℕ) (word : HeadWord) (path : ℕ → ℕ) (head res
 
 -- the groups of a caller are those of its ended commands, and that of the running one where it has landed
 abbrev pub OwnGroups : ℕ → List Group → Caller → Bool → Type 0
-OwnGroups c h k landed = mine h c ≡ k.mine ++ cond landed (own_group c k ∷ []) []
+OwnGroups c h k linearized = mine h c ≡ k.mine ++ cond linearized (own_group c k ∷ []) []
 
 -- A caller whose commands made these groups, and which runs these operations, is within its allowance. It took one row for
 -- each of its enqueues, and one announcement for each batch of two operations or more, and has so many.
-pub record Allowed (z : Lane) (groups : List Group) (running : List Op) (taken made : ℕ) : Type 0 where
+pub record Allowed (z : LaneSizes) (groups : List Group) (running : List Op) (taken made : ℕ) : Type 0 where
   pub within : length (operations groups) + length running ≤ z.allowance
   pub rows : taken ≡ enqueue_count (operations groups) + enqueue_count running
   pub has_rows : taken ≤ z.items
@@ -80,121 +79,119 @@ LinksIn rows (Chain r) = r < rows
 LinksIn rows _ = Unit {0}
 
 -- the rows of a decided announcement lie behind the place i, for ever
-pub record Bound (first : ℕ) (path : ℕ → ℕ) (chained : ℕ → Bool) (cause : ℕ → ℕ) (total tail : ℕ) (said : Notice) (a i : ℕ) : Type 0 where
+pub record Bound (first : ℕ) (path : ℕ → ℕ) (chained : ℕ → Bool) (cause : ℕ → ℕ) (total tail : ℕ) (notice : Notice) (a i : ℕ) : Type 0 where
   pub causes : cause i ≡ a
   pub by_chain : chained i ≡ true
-  pub some : 0 < said.counts.enqs
-  pub within : i + said.counts.enqs ≤ total
-  pub starts : path (suc i) ≡ said.first
-  pub ends : path (i + said.counts.enqs) ≡ said.last
-  pub joined : (j : ℕ) → i < j → j < i + said.counts.enqs → chained j ≡ false
+  pub some : 0 < notice.counts.enqs
+  pub within : i + notice.counts.enqs ≤ total
+  pub starts : path (suc i) ≡ notice.first
+  pub ends : path (i + notice.counts.enqs) ≡ notice.last
+  pub joined : (j : ℕ) → i < j → j < i + notice.counts.enqs → chained j ≡ false
   pub reached : i ≤ tail
   -- its old dummy is no later, and its dequeues pass its enqueues by the excess at most
-  pub old_dummy : (h : ℕ) × (said.old_head ≡ at first path h) × (h ≤ i)
-  pub covered : said.counts.deqs ≤ said.counts.enqs + said.counts.excess
+  pub old_dummy : (h : ℕ) × (notice.old_head ≡ at first path h) × (h ≤ i)
+  pub covered : notice.counts.deqs ≤ notice.counts.enqs + notice.counts.excess
 
 -- while it stands, the shown head lies as many rows behind the dummy as it gets values, and TAIL is at the old tail or
 -- past the rows
-pub record Standing (head shown tail : ℕ) (said : Notice) (i : ℕ) : Type 0 where
+pub record Standing (head shown tail : ℕ) (notice : Notice) (i : ℕ) : Type 0 where
   pub from : head ≤ i
-  pub shows : shown ≡ gets said.counts (i - head)
-  pub inside : head + shown ≤ i + said.counts.enqs
-  pub tails : (tail ≡ i) ⊎ (i + said.counts.enqs ≤ tail)
+  pub shows : shown ≡ gets notice.counts (i - head)
+  pub inside : head + shown ≤ i + notice.counts.enqs
+  pub tails : (tail ≡ i) ⊎ (i + notice.counts.enqs ≤ tail)
 
 -- the announcements, so many, among `total` rows behind the place 0
-pub record Stages (first anns : ℕ) (stage : ℕ → Stage) (ann : Option ℕ) (said : ℕ → Notice) (old_tail : ℕ → Option Place)
+pub record Stages (first anns : ℕ) (stage : ℕ → Stage) (ann : Option ℕ) (notice : ℕ → Notice) (old_tail : ℕ → Option Place)
     (path : ℕ → ℕ) (chained : ℕ → Bool) (cause : ℕ → ℕ) (head total shown tail : ℕ) : Type 0 where
   -- one in HEAD is installed, and its OldHead names the dummy; one that waits is in HEAD, with nothing shown behind the dummy
   pub inside : (a : ℕ) → ann ≡ Some a → a < anns
   pub installed : (a : ℕ) → ann ≡ Some a → stage a ≢ unused
-  pub old_head : (a : ℕ) → ann ≡ Some a → (said a).old_head ≡ at first path head
+  pub old_head : (a : ℕ) → ann ≡ Some a → (notice a).old_head ≡ at first path head
   pub waits : (a : ℕ) → stage a ≡ waiting → (ann ≡ Some a) × (shown ≡ 0)
-  pub bound : (a i : ℕ) → stage a ≡ decided i → Bound first path chained cause total tail (said a) a i
-  pub standing : (a i : ℕ) → ann ≡ Some a → stage a ≡ decided i → Standing head shown tail (said a) i
+  pub bound : (a i : ℕ) → stage a ≡ decided i → Bound first path chained cause total tail (notice a) a i
+  pub standing : (a i : ℕ) → ann ≡ Some a → stage a ≡ decided i → Standing head shown tail (notice a) i
   -- OldTail is the tail word behind which it was decided; while that isn't recorded, the announcement stands, and TAIL is there
   pub unknown : (a : ℕ) → stage a ≡ waiting → old_tail a ≡ None
   pub recorded : (a i : ℕ) (q : Place) → stage a ≡ decided i → old_tail a ≡ Some q → q ≡ at first path i
   pub unrecorded : (a i : ℕ) → stage a ≡ decided i → old_tail a ≡ None → (ann ≡ Some a) × (tail ≤ i)
   -- where TAIL lags over a Chain link, that links the rows of the decided announcement in HEAD, and no others
-  pub lags : tail < total → chained tail ≡ true → (a : ℕ) × (stage a ≡ decided tail) × (ann ≡ Some a) × (total ≤ tail + (said a).counts.enqs)
+  pub lags : tail < total → chained tail ≡ true → (a : ℕ) × (stage a ≡ decided tail) × (ann ≡ Some a) × (total ≤ tail + (notice a).counts.enqs)
 
-abbrev pub Announced : Lane → Memory → Ghost → Type 0
-Announced z m g = Stages z.first (z.callers * z.callers) g.stage g.ann m.said m.old_tail g.path g.chained g.cause g.head (g.head + g.rest) g.shown g.tail
+abbrev pub Announced : LaneSizes → Memory → Ghost → Type 0
+Announced z m g = Stages z.first (z.callers * z.callers) g.stage g.ann m.notice m.old_tail g.path g.chained g.cause g.head (g.head + g.rest) g.shown g.tail
 
 -- a caller that helps its own announcement
 abbrev pub IsOwn : Back → Type 0
 IsOwn back.Own = Unit {0}
 IsOwn _ = ⊥
 
-abbrev pub HelpsOwn : Turn → Type 0
-HelpsOwn (HelpOldHead h) = IsOwn h.back
-HelpsOwn (HelpFirst h) = IsOwn h.back
-HelpsOwn (HelpLast h) = IsOwn h.back
-HelpsOwn (HelpCounts h) = IsOwn h.back
-HelpsOwn (HelpTail h) = IsOwn h.back
-HelpsOwn (HelpOldTail h p) = IsOwn h.back
-HelpsOwn (HelpLink h p) = IsOwn h.back
-HelpsOwn (LinkChain h p) = IsOwn h.back
-HelpsOwn (HelpPass h p n) = IsOwn h.back
-HelpsOwn (RecordTail h p) = IsOwn h.back
-HelpsOwn (HelpOver h q) = IsOwn h.back
-HelpsOwn (MoveTailOver h q) = IsOwn h.back
-HelpsOwn (HelpWalk h m r l) = IsOwn h.back
-HelpsOwn (MoveHeadAnn h m r) = IsOwn h.back
+abbrev pub HelpsOwn : Point → Type 0
+HelpsOwn (point.Help h p) = IsOwn h.back
 HelpsOwn _ = ⊥
 
 -- An announcement in HEAD says what the command of its owner c, which keeps k, is, and the owner helps it. Where it is
 -- decided, its rows have the values of the enqueues in order.
-pub record Told (value path : ℕ → ℕ) (stage : Stage) (said : Notice) (c : ℕ) (k : Caller) : Type 0 where
-  pub tells : Tells c (command k) said
-  pub helps : HelpsOwn k.turn
-  pub values : (i : ℕ) → stage ≡ decided i → enqueued k.ops ≡ run (λ j. value (path j)) (suc i) said.counts.enqs
+pub record Told (value path : ℕ → ℕ) (stage : Stage) (notice : Notice) (c : ℕ) (k : Caller) : Type 0 where
+  pub describes : Describes c (command k) notice
+  pub helps : HelpsOwn k.point
+  pub values : (i : ℕ) → stage ≡ decided i → enqueued k.ops ≡ run (λ j. value (path j)) (suc i) notice.counts.enqs
 
-abbrev pub IsTold : Lane → Memory → Ghost → (ℕ → Caller) → ℕ → Type 0
-IsTold z m g callers a = g.ann ≡ Some a → Told m.value g.path (g.stage a) (m.said a) (owner_of z a) (callers (owner_of z a))
+abbrev pub IsTold : LaneSizes → Memory → Ghost → (ℕ → Caller) → ℕ → Type 0
+IsTold z m g callers a = g.ann ≡ Some a → Told m.value g.path (g.stage a) (m.notice a) (owner_of z a) (callers (owner_of z a))
 
 -- The rows of an announcement that waits are unlinked rows of its owner c, which keeps k, joined by Single links, with
 -- the values of the enqueues in order.
-pub record Pending (z : Lane) (link : ℕ → LinkWord) (value : ℕ → ℕ) (spot : ℕ → Option ℕ) (chain : ℕ → ℕ) (landed : Bool) (said : Notice) (c : ℕ) (k : Caller) : Type 0 where
+pub record Pending (z : LaneSizes) (link : ℕ → LinkWord) (value : ℕ → ℕ) (spot : ℕ → Option ℕ) (chain : ℕ → ℕ) (linearized : Bool) (notice : Notice) (c : ℕ) (k : Caller) : Type 0 where
   pub known : c < z.callers
-  pub not_yet : landed ≡ false
-  pub some : 0 < said.counts.enqs
-  pub starts : chain 0 ≡ said.first
-  pub ends : (i : ℕ) → suc i ≡ said.counts.enqs → chain i ≡ said.last
-  pub homes : (i : ℕ) → i < said.counts.enqs → z.home (chain i) ≡ c
-  pub inside : (i : ℕ) → i < said.counts.enqs → chain i < z.rows
-  pub items : (i : ℕ) → i < said.counts.enqs → IsItem z (chain i)
-  pub unlinked : (i : ℕ) → i < said.counts.enqs → spot (chain i) ≡ None
-  pub taken : (i j : ℕ) → i < said.counts.enqs → k.taken ≤ j → item z c j ≢ chain i
-  pub apart : (i j : ℕ) → i < j → j < said.counts.enqs → chain i ≢ chain j
-  pub joined : (i : ℕ) → suc i < said.counts.enqs → link (chain i) ≡ Single (chain (suc i))
-  pub last : (i : ℕ) → suc i ≡ said.counts.enqs → link (chain i) ≡ Nil
-  pub values : enqueued k.ops ≡ run (λ i. value (chain i)) 0 said.counts.enqs
+  pub not_yet : linearized ≡ false
+  pub some : 0 < notice.counts.enqs
+  pub starts : chain 0 ≡ notice.first
+  pub ends : (i : ℕ) → suc i ≡ notice.counts.enqs → chain i ≡ notice.last
+  pub homes : (i : ℕ) → i < notice.counts.enqs → z.home (chain i) ≡ c
+  pub inside : (i : ℕ) → i < notice.counts.enqs → chain i < z.rows
+  pub items : (i : ℕ) → i < notice.counts.enqs → IsItem z (chain i)
+  pub unlinked : (i : ℕ) → i < notice.counts.enqs → spot (chain i) ≡ None
+  pub taken : (i j : ℕ) → i < notice.counts.enqs → k.taken ≤ j → item z c j ≢ chain i
+  pub apart : (i j : ℕ) → i < j → j < notice.counts.enqs → chain i ≢ chain j
+  pub joined : (i : ℕ) → suc i < notice.counts.enqs → link (chain i) ≡ Single (chain (suc i))
+  pub last : (i : ℕ) → suc i ≡ notice.counts.enqs → link (chain i) ≡ Nil
+  pub values : enqueued k.ops ≡ run (λ i. value (chain i)) 0 notice.counts.enqs
 
-abbrev pub Waits : Lane → Memory → Ghost → (ℕ → Caller) → ℕ → Type 0
-Waits z m g callers a = g.stage a ≡ waiting → Pending z m.link m.value g.spot g.chain (g.landed (owner_of z a)) (m.said a) (owner_of z a) (callers (owner_of z a))
+abbrev pub Waits : LaneSizes → Memory → Ghost → (ℕ → Caller) → ℕ → Type 0
+Waits z m g callers a = g.stage a ≡ waiting → Pending z m.link m.value g.spot g.chain (g.linearized (owner_of z a)) (m.notice a) (owner_of z a) (callers (owner_of z a))
 
 -- the announcements that a caller didn't use yet
-abbrev pub Unmade : Lane → (ℕ → Stage) → ℕ → Caller → Type 0
+abbrev pub Unmade : LaneSizes → (ℕ → Stage) → ℕ → Caller → Type 0
 Unmade z stage c k = (i : ℕ) → k.made ≤ i → i < z.callers → stage (own_ann z c i) ≡ unused
 
-pub record Lawful (z : Lane) (s : State) : Type 0 where
+-- the list of rows with HEAD and TAIL, in a lane whose history has so many operations
+pub record Ordered (z : LaneSizes) (head_is : HeadWord) (tail_is : Place) (link : ℕ → LinkWord) (made : ℕ) (path : ℕ → ℕ) (chained : ℕ → Bool) (spot : ℕ → Option ℕ)
+    (first_at rest tail_at : ℕ) (ann : Option ℕ) (shown queued : ℕ) : Type 0 where
+  pub rows : Listed z.rows link path chained spot first_at rest
+  pub item_rows : ItemRows z path first_at rest shown
+  pub head : Headed z.first head_is path first_at rest ann shown queued
+  pub tail : Tailed z.first tail_is path chained first_at rest tail_at
+  -- each linked row came with an operation of the history
+  pub counts : first_at + rest ≤ made
+  pub links : (r : ℕ) → LinksIn z.rows (link r)
+
+abbrev pub InOrder : LaneSizes → Memory → List Group → Ghost → Type 0
+InOrder z m h g = Ordered z m.head m.tail m.link (length (operations h)) g.path g.chained g.spot g.head g.rest g.tail g.ann g.shown g.queued
+
+-- what is true of caller c, which keeps k
+pub record OfCaller (z : LaneSizes) (w : World) (c : ℕ) (k : Caller) : Type 0 where
+  pub unmade : Unmade z w.ghost.stage c k
+  pub own_groups : OwnGroups c w.history k (w.ghost.linearized c)
+  pub allowed : Allowed z k.mine k.ops k.taken k.made
+  pub knows : Knows z w c k
+
+pub record Lawful (z : LaneSizes) (s : State) : Type 0 where
   pub ghost : Ghost
   -- the history is proper, and the shown queue is its last queue
   pub history : IsProper z.callers s.history
   pub queue : last_queue s.history ≡ shown_queue s.memory.value ghost
-  pub rows : Listed z.rows s.memory.link ghost.path ghost.chained ghost.spot ghost.head ghost.rest
-  pub item_rows : ItemRows z ghost.path ghost.head ghost.rest ghost.shown
-  pub head : Headed z.first s.memory.head ghost.path ghost.head ghost.rest ghost.ann ghost.shown ghost.queued
-  pub tail : Tailed z.first s.memory.tail ghost.path ghost.chained ghost.head ghost.rest ghost.tail
-  -- each linked row came with an operation of the history
-  pub counts : ghost.head + ghost.rest ≤ length (operations s.history)
-  pub links : (r : ℕ) → LinksIn z.rows (s.memory.link r)
+  pub list : InOrder z s.memory s.history ghost
   pub announced : Announced z s.memory ghost
   pub told : (a : ℕ) → IsTold z s.memory ghost s.callers a
   pub pending : (a : ℕ) → Waits z s.memory ghost s.callers a
-  pub unmade : (c : ℕ) → Unmade z ghost.stage c (s.callers c)
-  pub own_groups : (c : ℕ) → OwnGroups c s.history (s.callers c) (ghost.landed c)
-  pub allowed : (c : ℕ) → Allowed z (s.callers c).mine (s.callers c).ops (s.callers c).taken (s.callers c).made
-  -- what each caller has read and keeps is true
-  pub kept_facts : (c : ℕ) → Each z record { memory = s.memory; history = s.history; ghost = ghost } c (facts z c (s.callers c))
+  pub callers : (c : ℕ) → OfCaller z record { memory = s.memory; history = s.history; ghost = ghost } c (s.callers c)

@@ -1,11 +1,17 @@
 -- The pure machine of a lane.
 pub mod Functions
-pub mod Lane
+pub mod LaneSizes
 pub mod Notices
 pub mod Batches
 pub mod State
+pub mod Act
+pub mod Fact
+pub mod Help
+pub mod Enqueue
+pub mod Dequeue
+pub mod Batch
+pub mod Answer
 pub mod Step
-pub mod Course
 pub mod Start
 pub mod Kind
 pub mod Ranges
@@ -14,6 +20,8 @@ pub mod Kept
 pub mod Once
 pub mod Ended
 pub mod Alone
+pub mod Noted
+pub mod Fits
 pub mod Facts
 pub mod Lawful
 pub mod Shown

@@ -9,7 +9,7 @@ use Rattle.word_rows.specs.declared.location.AnnField.{AnnField}
 use Rattle.word_rows.specs.declared.location.AnnField.TheVariants.{OldHead, OldTail, First, Last, Counts, BatchNo, Order0, Order1, Order2, Order3}
 use Rattle.word_rows.specs.declared.content.Content.{Content}
 use Rattle.word_rows.specs.declared.content.Content.TheVariants.{OfHead, OfOldTail, OfChainEnd, OfCounts, OfBatchNo, OfOrder}
-use Rattle.core_model.specs.declared.turn.Notice.{Notice}
+use Rattle.core_model.specs.declared.point.Notice.{Notice}
 
 abbrev pub place : ℕ → ℕ → Place
 place row count = record { row = row; count = count }

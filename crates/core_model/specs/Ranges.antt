@@ -6,8 +6,12 @@ use Rattle.word_rows.specs.declared.head_word.HeadWord.TheVariants.{Node}
 use Rattle.word_rows.specs.declared.link_word.LinkWord.TheVariants.{Single, Chain}
 use Rattle.word_rows.specs.declared.location.Location.{Location}
 use Rattle.word_rows.specs.declared.location.Location.TheVariants.{Head, Tail, Link, Value, AnnWord}
-use Rattle.core_model.specs.declared.turn.Turn.{Turn}
-use Rattle.core_model.specs.declared.turn.Turn.TheVariants.{EnqPass, EnqLast, DeqPass, MoveHead, BatchValue, BatchChain, HelpPass, MoveTailOver, MoveHeadAnn}
+use Rattle.core_model.specs.declared.point.Point.{Point}
+use Rattle.core_model.specs.declared.point.DequeuePoint.TheVariants as deq
+use Rattle.core_model.specs.declared.point.BatchPoint.TheVariants as batch
+use Rattle.core_model.specs.declared.point.Point.TheVariants as point
+use Rattle.core_model.specs.declared.point.EnqueuePoint.TheVariants as enq
+use Rattle.core_model.specs.declared.point.HelpPoint.TheVariants as help
 
 -- a word of a lane with so many rows and announcements
 abbrev pub IsWord : ℕ → ℕ → Location → Type 0
@@ -16,21 +20,21 @@ IsWord rows anns (Value r) = r < rows
 IsWord rows anns (AnnWord a f) = a < anns
 IsWord rows anns _ = Unit {0}
 
--- the row that the step counts out
-abbrev pub RowsFit : Turn → Type 0
-RowsFit (BatchValue d i v) = d.notice.first + i < 2 ^ 31
-RowsFit (BatchChain d i) = d.notice.first + i < 2 ^ 31
+-- the rows and the numbers that a batch counts on from
+abbrev pub RowsFit : Point → Type 0
+RowsFit (point.Batch d (batch.StoreValue i r v)) = (d.notice.first + i < 2 ^ 31) × (r < 2 ^ 31)
+RowsFit (point.Batch d (batch.StoreChain i r n)) = (i < 2 ^ 31) × (n < 2 ^ 31)
 RowsFit _ = Unit {0}
 
--- the count that the step stores
-abbrev pub CountsFit : Turn → Type 0
-CountsFit (EnqPass x p n) = p.count < 2 ^ 44
-CountsFit (EnqLast p n) = p.count < 2 ^ 44
-CountsFit (DeqPass p n) = p.count < 2 ^ 44
-CountsFit (MoveHead p n v) = p.count < 2 ^ 44
-CountsFit (HelpPass h p n) = p.count < 2 ^ 44
-CountsFit (MoveTailOver h q) = q.count + h.counts.enqs < 2 ^ 44
-CountsFit (MoveHeadAnn h m r) = h.old_head.count + m < 2 ^ 44
+-- the count that the step raises to and stores
+abbrev pub CountsFit : Point → Type 0
+CountsFit (point.Enqueue x (enq.PassTail p n)) = p.count + 1 < 2 ^ 44
+CountsFit (point.Enqueue x (enq.MoveTail p n)) = p.count + 1 < 2 ^ 44
+CountsFit (point.Dequeue (deq.PassTail p n)) = p.count + 1 < 2 ^ 44
+CountsFit (point.Dequeue (deq.MoveHead p n v)) = p.count + 1 < 2 ^ 44
+CountsFit (point.Help h (help.PassTail p n)) = p.count + 1 < 2 ^ 44
+CountsFit (point.Help h (help.MoveTailOver q)) = q.count + h.counts.enqs < 2 ^ 44
+CountsFit (point.Help h (help.MoveHead m r)) = h.old_head.count + m < 2 ^ 44
 CountsFit _ = Unit {0}
 
 -- what is found in HEAD, in TAIL or in a link names rows of a lane with so many, and has counts below the limit

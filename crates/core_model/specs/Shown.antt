@@ -7,7 +7,7 @@ use Rattle.word_rows.specs.declared.link_word.LinkWord.{LinkWord}
 use Rattle.word_rows.specs.declared.link_word.LinkWord.TheVariants.{Nil, Single, Chain, Shut}
 use Rattle.core_model.specs.Batches.{gets}
 use Rattle.core_model.specs.State.{Memory}
-use Rattle.core_model.specs.Step.{is_unknown}
+use Rattle.core_model.specs.Act.{is_unknown}
 
 -- the row that a link names, if any
 abbrev pub linked_row : LinkWord → Option ℕ
@@ -40,7 +40,7 @@ is_chain_of Shut first = false
 
 -- an announcement in HEAD is decided where its OldTail is known, or where the link of TAIL's row is Chain of its First
 abbrev pub is_decided : Memory → ℕ → Bool
-is_decided m a = not (is_unknown (m.old_tail a)) || is_chain_of (m.link m.tail.row) (m.said a).first
+is_decided m a = not (is_unknown (m.old_tail a)) || is_chain_of (m.link m.tail.row) (m.notice a).first
 
 -- behind which place that was
 abbrev pub decided_behind : Option Place → Place → Place
@@ -52,8 +52,8 @@ decided_behind None tail = tail
 abbrev pub shown_head : Memory → HeadWord → ℕ
 shown_head m (Node p) = p.row
 shown_head m (Ann a n) = if is_decided m a
-    then row_behind m (m.said a).old_head.row (gets (m.said a).counts ((decided_behind (m.old_tail a) m.tail).count - (m.said a).old_head.count))
-    else (m.said a).old_head.row
+    then row_behind m (m.notice a).old_head.row (gets (m.notice a).counts ((decided_behind (m.old_tail a) m.tail).count - (m.notice a).old_head.count))
+    else (m.notice a).old_head.row
 
 -- the words show this queue
 abbrev pub Shows : Memory → List ℕ → Type 0

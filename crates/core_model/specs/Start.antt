@@ -8,18 +8,22 @@ use Rattle.excess_count.specs.Excess.{enqueue_count}
 use Rattle.excess_count.specs.Got.{enqueued}
 use Rattle.word_rows.specs.declared.head_word.HeadWord.TheVariants.{Node}
 use Rattle.word_rows.specs.declared.link_word.LinkWord.TheVariants.{Nil}
-use Rattle.core_model.specs.declared.turn.Draft.{Draft}
-use Rattle.core_model.specs.declared.turn.Turn.{Turn}
-use Rattle.core_model.specs.declared.turn.Turn.TheVariants.{Idle, StoreValue, DeqHead, BatchValue}
-use Rattle.core_model.specs.declared.turn.CallEnd.TheVariants.{Full}
+use Rattle.core_model.specs.declared.point.Draft.{Draft}
+use Rattle.core_model.specs.declared.point.Point.{Point}
+use Rattle.core_model.specs.declared.point.Point.TheVariants.{Idle}
+use Rattle.core_model.specs.declared.point.DequeuePoint.TheVariants as deq
+use Rattle.core_model.specs.declared.point.BatchPoint.TheVariants as batch
+use Rattle.core_model.specs.declared.point.Point.TheVariants as point
+use Rattle.core_model.specs.declared.point.EnqueuePoint.TheVariants as enq
+use Rattle.core_model.specs.declared.point.CallEnd.TheVariants.{Full}
 use Rattle.core_model.specs.Functions.{put}
-use Rattle.core_model.specs.Lane.{Lane, item}
+use Rattle.core_model.specs.LaneSizes.{LaneSizes, item}
 use Rattle.core_model.specs.Notices.{place, blank}
 use Rattle.core_model.specs.Batches.{own_ann, notice_of, many_count}
 use Rattle.core_model.specs.State.{Caller, State}
 
 -- so many more operations pass the allowance of a caller whose commands have ended
-abbrev pub PassesAllowance : Lane → Caller → ℕ → Type 0
+abbrev pub PassesAllowance : LaneSizes → Caller → ℕ → Type 0
 PassesAllowance z k more = z.allowance < length (operations k.mine) + more
 
 -- One operation is a plain call, and more are a batch, which has an enqueue.
@@ -31,29 +35,29 @@ abbrev pub anns_taken : List Op → ℕ
 anns_taken ops = if nat_lt 1 (length ops) then 1 else 0
 
 -- rows and an announcement are left for the operations
-abbrev pub has_rows : Lane → Caller → List Op → Bool
+abbrev pub has_rows : LaneSizes → Caller → List Op → Bool
 has_rows z k ops = nat_le (k.taken + enqueue_count ops) z.items && nat_le (k.made + anns_taken ops) z.callers
 
 -- A caller with these groups of ended commands has no rows left for the operations, or no announcement for several of them.
-abbrev pub LacksRows : Lane → List Group → List Op → Type 0
+abbrev pub LacksRows : LaneSizes → List Group → List Op → Type 0
 LacksRows z made ops = (z.items < enqueue_count (operations made) + enqueue_count ops) ⊎ ((1 < length ops) × (z.callers ≤ many_count made))
 
 -- what the batch of caller c is to say, where it takes the least of the unused rows and announcements
-abbrev pub draft_of : Lane → ℕ → Caller → List Op → Draft
+abbrev pub draft_of : LaneSizes → ℕ → Caller → List Op → Draft
 draft_of z c k ops = record { ann = own_ann z c k.made; notice = notice_of c (length k.mine) (item z c k.taken) ops }
 
 -- how the command of caller c begins
-abbrev pub first_turn : Lane → ℕ → Caller → List Op → Turn
-first_turn z c k [] = Idle
-first_turn z c k (Enq v ∷ []) = StoreValue record { row = item z c k.taken; value = v }
-first_turn z c k (Deq ∷ []) = DeqHead
-first_turn z c k (op ∷ next ∷ ops) = BatchValue (draft_of z c k (op ∷ next ∷ ops)) 0 (get_or (enqueued (op ∷ next ∷ ops)) 0 0)
+abbrev pub first_point : LaneSizes → ℕ → Caller → List Op → Point
+first_point z c k [] = Idle
+first_point z c k (Enq v ∷ []) = point.Enqueue (record { row = item z c k.taken; value = v }) enq.StoreValue
+first_point z c k (Deq ∷ []) = (point.Dequeue deq.LoadHead)
+first_point z c k (op ∷ next ∷ ops) = point.Batch (draft_of z c k (op ∷ next ∷ ops)) (batch.StoreValue 0 (item z c k.taken) (get_or (enqueued (op ∷ next ∷ ops)) 0 0))
 
 -- Of caller c, which keeps k, when the history has n groups.
-module _ (z : Lane) (n c : ℕ) (k : Caller) where
+module _ (z : LaneSizes) (n c : ℕ) (k : Caller) where
   -- its command starts
   abbrev pub started : List Op → Caller
-  started ops = record k { turn = first_turn z c k ops; ops = ops; taken = k.taken + enqueue_count ops; made = k.made + anns_taken ops; values = []; started_at = n; ended_at = None }
+  started ops = record k { point = first_point z c k ops; ops = ops; taken = k.taken + enqueue_count ops; made = k.made + anns_taken ops; values = []; started_at = n; ended_at = None }
 
   -- its command ends with Full at once
   abbrev pub refused : Caller
@@ -63,17 +67,17 @@ module _ (z : Lane) (n c : ℕ) (k : Caller) where
   begun ops = if has_rows z k ops then started ops else refused
 
 -- the start of caller c's command
-abbrev pub start : Lane → State → ℕ → List Op → State
+abbrev pub start : LaneSizes → State → ℕ → List Op → State
 start z s c ops = record { memory = s.memory; history = s.history; callers = put s.callers c (begun z (length s.history) c (s.callers c) ops) }
 
 -- a caller that made no command yet
 abbrev pub newcomer : Caller
-newcomer = record { turn = Idle; ops = []; mine = []; taken = 0; made = 0; values = []; outcome = None; answers = []; started_at = 0; ended_at = None }
+newcomer = record { point = Idle; ops = []; mine = []; taken = 0; made = 0; values = []; outcome = None; answers = []; started_at = 0; ended_at = None }
 
 -- an empty lane, whose callers are idle
-abbrev pub opening : Lane → State
+abbrev pub opening : LaneSizes → State
 opening z = record {
-  memory = record { head = Node (place 0 z.first); tail = place 0 z.first; link = λ _. Nil; value = λ _. 0; old_tail = λ _. None; said = λ _. blank };
+  memory = record { head = Node (place 0 z.first); tail = place 0 z.first; link = λ _. Nil; value = λ _. 0; old_tail = λ _. None; notice = λ _. blank };
   history = [];
   callers = λ _. newcomer;
 }

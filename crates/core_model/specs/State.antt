@@ -1,5 +1,5 @@
 -- The state of a lane: its words, the history, and what each caller keeps.
-use Rattle.std.specs.Prelude.{ℕ, List, Option, None}
+use Rattle.std.specs.Prelude.{ℕ, List, length, Option, None}
 use Rattle.bq_model.specs.declared.op.Op.{Op}
 use Rattle.bq_model.specs.declared.op.Answer.{Answer}
 use Rattle.bq_model.specs.declared.group.Group.{Group}
@@ -11,12 +11,13 @@ use Rattle.word_rows.specs.declared.link_word.LinkWord.TheVariants.{Nil}
 use Rattle.word_rows.specs.declared.location.Location.{Location}
 use Rattle.word_rows.specs.declared.location.AnnField.{AnnField}
 use Rattle.word_rows.specs.declared.location.AnnField.TheVariants.{OldTail}
-use Rattle.word_rows.specs.declared.location.Location.TheVariants.{Head, Tail, Link, Value, AnnWord}
+use Rattle.word_rows.specs.declared.location.Location.TheVariants.{Head, Tail, Link, Value, Mark, NodeHazard, AnnHazard, AnnWord}
 use Rattle.word_rows.specs.declared.content.Content.{Content}
-use Rattle.word_rows.specs.declared.content.Content.TheVariants.{OfHead, OfTail, OfLink, OfValue, OfOldTail}
-use Rattle.core_model.specs.declared.turn.Notice.{Notice}
-use Rattle.core_model.specs.declared.turn.Turn.{Turn}
-use Rattle.core_model.specs.declared.turn.CallEnd.{CallEnd}
+use Rattle.word_rows.specs.declared.content.Content.TheVariants.{OfHead, OfTail, OfLink, OfValue, OfMark, OfNodeHazard, OfAnnHazard, OfOldTail}
+use Rattle.word_rows.specs.Opening.{opening_marks}
+use Rattle.core_model.specs.declared.point.Notice.{Notice}
+use Rattle.core_model.specs.declared.point.Point.{Point}
+use Rattle.core_model.specs.declared.point.CallEnd.{CallEnd}
 use Rattle.core_model.specs.Functions.{put}
 use Rattle.core_model.specs.Notices.{place, field_in, with_field}
 
@@ -28,12 +29,12 @@ pub record Memory : Type 0 where
   pub value : ℕ → ℕ
   -- of each announcement OldTail, none while it isn't known, and what it says else
   pub old_tail : ℕ → Option Place
-  pub said : ℕ → Notice
+  pub notice : ℕ → Notice
 
 -- what a caller keeps
 pub record Caller : Type 0 where
   -- the step that it makes next, with what it has read
-  pub turn : Turn
+  pub point : Point
   -- the operations of the running command; none where none runs
   pub ops : List Op
   -- the groups of its ended commands that answered Done
@@ -61,15 +62,24 @@ pub record Command : Type 0 where
 abbrev pub command : Caller → Command
 command k = record { ops = k.ops; mine = k.mine; taken = k.taken; made = k.made; started_at = k.started_at }
 
+-- the group of the running command of caller c
+abbrev pub own_group : ℕ → Caller → Group
+own_group c k = record { caller = c; batch = length k.mine; ops = k.ops }
+
 pub record State : Type 0 where
   pub memory : Memory
   pub history : List Group
   pub callers : ℕ → Caller
 
--- What is found in a word. No step touches marks and hazards yet.
+-- the word of a field, of an announcement with this OldTail that else says this
+abbrev pub field_of : Option Place → Notice → AnnField → Content
+field_of tail n OldTail = OfOldTail tail
+field_of tail n f = field_in n f
+
 abbrev pub read_field : Memory → ℕ → AnnField → Content
-read_field m a OldTail = OfOldTail (m.old_tail a)
-read_field m a f = field_in (m.said a) f
+read_field m a f = field_of (m.old_tail a) (m.notice a) f
+
+-- What is found in a word. No step touches marks and hazards yet.
 
 abbrev pub read : Memory → Location → Content
 read m Head = OfHead m.head
@@ -77,7 +87,9 @@ read m Tail = OfTail m.tail
 read m (Link r) = OfLink (m.link r)
 read m (Value r) = OfValue (m.value r)
 read m (AnnWord a f) = read_field m a f
-read m _ = OfValue 0
+read m (Mark r) = OfMark (opening_marks r)
+read m (NodeHazard c) = OfNodeHazard None
+read m (AnnHazard c) = OfAnnHazard None
 
 -- the content as that of a head, a tail, a link, a value or an OldTail; any, where it is of another kind
 abbrev pub head_in : Content → HeadWord
@@ -103,7 +115,7 @@ old_tail_in _ = None
 -- the words after a store
 abbrev pub write_field : Memory → ℕ → AnnField → Content → Memory
 write_field m a OldTail x = record m { old_tail = put m.old_tail a (old_tail_in x) }
-write_field m a f x = record m { said = put m.said a (with_field (m.said a) f x) }
+write_field m a f x = record m { notice = put m.notice a (with_field (m.notice a) f x) }
 
 abbrev pub write : Memory → Location → Content → Memory
 write m Head x = record m { head = head_in x }

@@ -1,155 +1,105 @@
-// What the next step of a caller does: which word it touches, and what it stores there.
-ghost use Rattle.std.specs.Prelude.{◌≡◌, ◌^◌, ◌<◌, cond};
-ghost use Rattle.core_model.specs.State.{tail_in};
-ghost use Rattle.core_model.specs.Step.{target, stored, grows, same_place, behind};
-ghost use Rattle.core_model.specs.Ranges.{RowsFit, CountsFit};
+// What a step does with its word.
+ghost use Rattle.std.specs.Prelude.{◌≡◌, ◌^◌, ◌<◌};
+ghost use Rattle.core_model.specs.Act.{same_head, joins, same_link, same_old_tail, same_content, location, changes, effect, by_one};
 
-use crate::found::{
-    behind, far_behind, head_in, is_ann, is_nil, is_node, is_same_place, is_unknown, link_in,
-    old_tail_in, tail_in,
-};
-use crate::turn::Turn;
-use word_rows::{AnnField, Content, HeadWord, LinkWord, Location, Place};
+use crate::found::{behind, is_ann, is_nil, is_node, is_same_place, is_unknown};
+use word_rows::{Content, HeadWord, LinkWord, Location, Place};
 
-fn word_of(ann: u32, field: AnnField) -> Location
-    ensures { result ≡ Location.AnnWord ann field }
-{
-    Location::AnnWord { ann, field }
+/// What a step does with its word.
+#[derive(Clone, Copy, Debug, PartialEq, Eq, Hash)]
+pub enum Act {
+    /// It reads the word.
+    Load(Location),
+    /// It stores this.
+    Store(Location, Content),
+    /// It stores the second where it finds the first.
+    Exchange(Location, Content, Content),
 }
 
-impl Turn {
-    /// The word of the next step.
-    pub fn target(self) -> Location
-        requires { RowsFit self }
-        ensures { result ≡ target self }
+fn is_same_head(found: HeadWord, old: HeadWord) -> bool
+    ensures { result ≡ same_head found old }
+{
+    match old {
+        HeadWord::Node(place) => is_node(found, place),
+        HeadWord::Ann { ann, count } => is_ann(found, ann, count),
+    }
+}
+
+fn is_same_link(found: LinkWord, old: LinkWord) -> bool
+    ensures { result ≡ same_link found old }
+{
+    match old {
+        LinkWord::Nil => is_nil(found),
+        LinkWord::Single(row) => match found {
+            LinkWord::Single(next) => next == row,
+            _ => false,
+        },
+        LinkWord::Chain(row) => match found {
+            LinkWord::Chain(next) => next == row,
+            _ => false,
+        },
+        LinkWord::Shut => match found {
+            LinkWord::Shut => true,
+            _ => false,
+        },
+    }
+}
+
+fn is_same_old_tail(found: Option<Place>, old: Option<Place>) -> bool
+    ensures { result ≡ same_old_tail found old }
+{
+    match old {
+        None => is_unknown(found),
+        Some(old) => match found {
+            Some(found) => is_same_place(found, old),
+            None => false,
+        },
+    }
+}
+
+// Whether an exchange that expects this finds it.
+fn is_same(found: Content, old: Content) -> bool
+    ensures { result ≡ same_content found old }
+{
+    match (found, old) {
+        (Content::OfHead(found), Content::OfHead(old)) => is_same_head(found, old),
+        (Content::OfTail(found), Content::OfTail(old)) => is_same_place(found, old),
+        (Content::OfLink(found), Content::OfLink(old)) => is_same_link(found, old),
+        (Content::OfOldTail(found), Content::OfOldTail(old)) => is_same_old_tail(found, old),
+        _ => false,
+    }
+}
+
+impl Act {
+    /// The word of the step.
+    pub fn location(self) -> Location
+        ensures { result ≡ location self }
     {
         match self {
-            Turn::Idle | Turn::EnqHead(_) | Turn::DeqHead | Turn::MoveHead(..) => Location::Head,
-            Turn::BatchHead(_) | Turn::Install(_) | Turn::MoveHeadAnn(..) => Location::Head,
-            Turn::EnqTail(_) | Turn::EnqPass(..) | Turn::EnqLast(..) => Location::Tail,
-            Turn::DeqTail(..) | Turn::DeqOver(..) | Turn::DeqPass(..) => Location::Tail,
-            Turn::HelpTail(_) | Turn::HelpPass(..) => Location::Tail,
-            Turn::HelpOver(..) | Turn::MoveTailOver(..) => Location::Tail,
-            Turn::EnqLink(_, tail) | Turn::LinkSingle(_, tail) => Location::Link { row: tail.row },
-            Turn::HelpLink(_, tail) | Turn::LinkChain(_, tail) => Location::Link { row: tail.row },
-            Turn::DeqLink(dummy) => Location::Link { row: dummy.row },
-            Turn::HelpWalk(_, _, row, _) | Turn::AnswerLink(_, row, _) => Location::Link { row },
-            Turn::BatchChain(draft, number) => Location::Link {
-                row: draft.notice.first + number,
-            },
-            Turn::StoreValue(item) => Location::Value { row: item.row },
-            Turn::DeqValue(_, row) | Turn::AnswerValue(_, row, _) => Location::Value { row },
-            Turn::BatchValue(draft, number, _) => Location::Value {
-                row: draft.notice.first + number,
-            },
-            Turn::BatchField(draft, field) => Location::AnnWord {
-                ann: draft.ann,
-                field,
-            },
-            Turn::HelpOldHead(help) => word_of(help.ann, AnnField::OldHead),
-            Turn::HelpFirst(help) => word_of(help.ann, AnnField::First),
-            Turn::HelpLast(help) => word_of(help.ann, AnnField::Last),
-            Turn::HelpCounts(help) => word_of(help.ann, AnnField::Counts),
-            Turn::HelpOldTail(help, _) | Turn::RecordTail(help, _) | Turn::AnswerTail(help) => {
-                word_of(help.ann, AnnField::OldTail)
-            }
+            Act::Load(word) | Act::Store(word, _) | Act::Exchange(word, ..) => word,
         }
     }
 
     /// What the word has after the step that found this in it.
-    pub fn stored(self, found: Content) -> Content
-        requires rows { RowsFit self }
-        requires counts { CountsFit self }
-        ensures { result ≡ stored self found }
+    pub fn effect(self, found: Content) -> Content
+        ensures { result ≡ effect self found }
     {
         match self {
-            Turn::StoreValue(item) => Content::OfValue(item.value),
-            Turn::BatchValue(_, _, value) => Content::OfValue(value),
-            Turn::BatchChain(draft, number) => {
-                Content::OfLink(LinkWord::Single(draft.notice.first + number + 1))
-            }
-            Turn::BatchField(draft, field) => draft.notice.field(field),
-            Turn::LinkSingle(item, _) => {
-                if is_nil(link_in(found)) {
-                    Content::OfLink(LinkWord::Single(item.row))
-                } else {
-                    found
-                }
-            }
-            Turn::LinkChain(help, _) => {
-                if is_nil(link_in(found)) {
-                    Content::OfLink(LinkWord::Chain(help.first))
-                } else {
-                    found
-                }
-            }
-            Turn::EnqPass(_, tail, row) | Turn::HelpPass(_, tail, row) => moved(found, tail, row),
-            Turn::EnqLast(tail, row) | Turn::DeqPass(tail, row) => moved(found, tail, row),
-            Turn::MoveTailOver(help, tail) => {
-                if is_same_place(tail_in(found), tail) {
-                    Content::OfTail(far_behind(tail, help.last, help.counts.enqs))
-                } else {
-                    found
-                }
-            }
-            Turn::RecordTail(_, tail) => {
-                if is_unknown(old_tail_in(found)) {
-                    Content::OfOldTail(Some(tail))
-                } else {
-                    found
-                }
-            }
-            Turn::Install(draft) => {
-                let old_head = draft.notice.old_head;
-                if is_node(head_in(found), old_head) {
-                    Content::OfHead(HeadWord::Ann {
-                        ann: draft.ann,
-                        count: old_head.count,
-                    })
-                } else {
-                    found
-                }
-            }
-            Turn::MoveHeadAnn(help, gets, row) => {
-                if is_ann(head_in(found), help.ann, help.old_head.count) {
-                    Content::OfHead(HeadWord::Node(far_behind(help.old_head, row, gets)))
-                } else {
-                    found
-                }
-            }
-            Turn::MoveHead(dummy, row, _) => {
-                if is_node(head_in(found), dummy) {
-                    Content::OfHead(HeadWord::Node(behind(dummy, row)))
-                } else {
-                    found
-                }
-            }
-            _ => found,
-        }
-    }
-
-    /// Whether the step that found this in its word adds a group to the history.
-    pub fn grows(self, found: Content) -> bool
-        ensures { result ≡ grows self found }
-    {
-        match self {
-            Turn::LinkSingle(..) | Turn::DeqLink(_) | Turn::LinkChain(..) => {
-                is_nil(link_in(found))
-            }
-            Turn::MoveHead(dummy, ..) => is_node(head_in(found), dummy),
-            _ => false,
+            Act::Load(_) => found,
+            Act::Store(_, content) => content,
+            Act::Exchange(_, old, new) => { if is_same(found, old) { new } else { found } }
         }
     }
 }
 
-// What the tail has after an exchange by one row.
-fn moved(found: Content, tail: Place, row: u32) -> Content
+/// The exchange of the tail by one row.
+pub fn by_one(tail: Place, row: u32) -> Act
     requires { tail.count < 2 ^ 44 }
-    ensures { result ≡ cond (same_place (tail_in found) tail) (Content.OfTail (behind tail row)) found }
+    ensures { result ≡ by_one tail row }
 {
-    if is_same_place(tail_in(found), tail) {
-        Content::OfTail(behind(tail, row))
-    } else {
-        found
-    }
+    Act::Exchange(
+        Location::Tail,
+        Content::OfTail(tail),
+        Content::OfTail(behind(tail, row)),
+    )
 }

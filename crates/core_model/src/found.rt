@@ -1,7 +1,7 @@
 // What a step finds in its word.
 ghost use Rattle.std.specs.Prelude.{◌≡◌, ◌+◌, ◌<◌, ◌^◌};
 ghost use Rattle.core_model.specs.State.{head_in, tail_in, link_in, value_in, old_tail_in};
-ghost use Rattle.core_model.specs.Step.{same_place, is_node, is_ann, is_unknown, is_nil, behind, far_behind};
+ghost use Rattle.core_model.specs.Act.{same_place, is_node, is_ann, is_unknown, is_nil, behind, far_behind};
 
 use word_rows::{Content, HeadWord, LinkWord, Place};
 

@@ -1,9 +1,9 @@
 // The kinds of atomic step.
 ghost use Rattle.std.specs.Prelude.{◌≡◌, ◌≢◌, Some};
 ghost use Rattle.core_model.specs.Kind.{kind_of};
-ghost use Rattle.core_model.specs.declared.turn.Turn.TheVariants.{Idle};
+ghost use Rattle.core_model.specs.declared.point.Point.TheVariants.{Idle};
 
-use crate::turn::Turn;
+use crate::point::Point;
 
 /// A kind of atomic step. Each is one load, one store or one exchange of one word.
 #[derive(Clone, Copy, Debug, PartialEq, Eq, Hash)]
@@ -42,39 +42,23 @@ pub enum StepKind {
     MoveHeadAnn,
 }
 
-impl Turn {
+impl Point {
     /// The kind of the next step; `None` where no command runs.
     pub fn kind(self) -> Option<StepKind>
         ensures { result ≡ kind_of self }
     {
         Some(match self {
-            Turn::Idle => return None,
-            Turn::StoreValue(_) | Turn::BatchValue(..) => StepKind::StoreValue,
-            Turn::EnqTail(_) | Turn::DeqTail(..) | Turn::DeqOver(..) => StepKind::LoadTail,
-            Turn::HelpTail(_) | Turn::HelpOver(..) => StepKind::LoadTail,
-            Turn::EnqLink(..) | Turn::DeqLink(_) | Turn::HelpLink(..) => StepKind::LoadLink,
-            Turn::HelpWalk(..) | Turn::AnswerLink(..) => StepKind::LoadLink,
-            Turn::LinkSingle(..) => StepKind::LinkSingle,
-            Turn::EnqPass(..) | Turn::EnqLast(..) | Turn::DeqPass(..) => StepKind::MoveTail,
-            Turn::HelpPass(..) => StepKind::MoveTail,
-            Turn::EnqHead(_) | Turn::DeqHead | Turn::BatchHead(_) => StepKind::LoadHead,
-            Turn::DeqValue(..) | Turn::AnswerValue(..) => StepKind::LoadValue,
-            Turn::MoveHead(..) => StepKind::MoveHead,
-            Turn::BatchChain(..) => StepKind::StoreChain,
-            Turn::BatchField(..) => StepKind::StoreAnn,
-            Turn::Install(_) => StepKind::Install,
-            Turn::HelpOldHead(_) | Turn::HelpFirst(_) | Turn::HelpLast(_) => StepKind::LoadAnn,
-            Turn::HelpCounts(_) | Turn::HelpOldTail(..) => StepKind::LoadAnn,
-            Turn::AnswerTail(_) => StepKind::LoadAnn,
-            Turn::LinkChain(..) => StepKind::LinkChain,
-            Turn::RecordTail(..) => StepKind::RecordTail,
-            Turn::MoveTailOver(..) => StepKind::MoveTailOver,
-            Turn::MoveHeadAnn(..) => StepKind::MoveHeadAnn,
+            Point::Idle => return None,
+            Point::Enqueue(_, point) => point.kind(),
+            Point::Dequeue(point) => point.kind(),
+            Point::Batch(_, point) => point.kind(),
+            Point::Help(_, point) => point.kind(),
+            Point::Answer(point) => point.kind(),
         })
     }
 }
 
-impl Turn {
+impl Point {
     /// The kind of the next step of a running command.
     pub fn running_kind(self) -> StepKind
         requires { self ≢ Idle }

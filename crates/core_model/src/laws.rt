@@ -7,76 +7,104 @@ ghost use Rattle.bq_model.specs.History.{last_queue};
 ghost use Rattle.bq_model.specs.Own.{mine};
 ghost use Rattle.word_rows.specs.declared.head_word.HeadWord.TheVariants.{Node, Ann};
 ghost use Rattle.word_rows.specs.declared.link_word.LinkWord.TheVariants.{Nil};
+ghost use Rattle.word_rows.specs.declared.location.Location.{Location};
 ghost use Rattle.word_rows.specs.declared.place.Place.{Place};
-ghost use Rattle.core_model.specs.declared.turn.CallEnd.TheVariants.{Done};
-ghost use Rattle.core_model.specs.declared.turn.Help.{Help};
-ghost use Rattle.core_model.specs.declared.turn.Turn.TheVariants.{Idle, LinkChain};
+ghost use Rattle.word_rows.specs.Homes.{IsHome};
+ghost use Rattle.word_rows.specs.Opening.{opening_of};
+ghost use Rattle.core_model.specs.declared.point.CallEnd.TheVariants.{Done};
+ghost use Rattle.core_model.specs.declared.point.Help.{Help};
+ghost use Rattle.core_model.specs.declared.point.Point.{Point};
+ghost use Rattle.core_model.specs.declared.point.HelpPoint.{HelpPoint};
+ghost use Rattle.core_model.specs.declared.point.Point.TheVariants.{Idle};
 ghost use Rattle.core_model.specs.Alone.{GoesOnOrEnds};
 ghost use Rattle.core_model.specs.Ended.{EndedDone};
-ghost use Rattle.core_model.specs.Lane.{Lane, lane_of};
+ghost use Rattle.core_model.specs.LaneSizes.{LaneSizes, lane_sizes};
 ghost use Rattle.core_model.specs.Lawful.{Lawful};
+ghost use Rattle.core_model.specs.Noted.{Begins, EndsFull, IsNoted};
 ghost use Rattle.core_model.specs.Once.{times};
 ghost use Rattle.core_model.specs.Ranges.{IsWord, CountsFit, NamesRows};
 ghost use Rattle.core_model.specs.Start.{PassesAllowance, IsCommand, LacksRows, begun, start, opening};
 ghost use Rattle.core_model.specs.Batches.{owner_of};
-ghost use Rattle.core_model.specs.Facts.{Tells};
+ghost use Rattle.core_model.specs.Facts.{Describes};
 ghost use Rattle.core_model.specs.Shown.{Shows};
-ghost use Rattle.core_model.specs.State.{State, command, read};
-ghost use Rattle.core_model.specs.Step.{target, own_group, grown, next};
+ghost use Rattle.core_model.specs.State.{State, command, read, own_group};
+ghost use Rattle.core_model.specs.Step.{target, added_by, next};
 
 /// An empty lane is lawful, and it stays so at each step of each caller and at each start of a command.
 pub fn each_event_keeps_the_lane_lawful()
-    ensures opening { (shape : Shape) → Lawful (lane_of shape) (opening (lane_of shape)) }
-    ensures step { (z : Lane) (s : State) (c : ℕ) → Lawful z s → Lawful z (next z s c) }
-    ensures start { (z : Lane) (s : State) (c : ℕ) (ops : List Op) → Lawful z s → IsCommand ops → (s.callers c).turn ≡ Idle → c < z.callers
+    ensures opening { (shape : Shape) → Lawful (lane_sizes shape) (opening (lane_sizes shape)) }
+    ensures step { (z : LaneSizes) (s : State) (c : ℕ) → Lawful z s → Lawful z (next z s c) }
+    ensures start { (z : LaneSizes) (s : State) (c : ℕ) (ops : List Op) → Lawful z s → IsCommand ops → (s.callers c).point ≡ Idle → c < z.callers
         → ¬ (PassesAllowance z (s.callers c) (length ops)) → Lawful z (start z s c ops) }
 {}
 
 /// A step changes what its own caller keeps, and no other caller's. The history grows at its end, by one group at most.
 pub fn a_step_is_its_callers_alone()
-    ensures others { (z : Lane) (s : State) (c d : ℕ) → d ≢ c → (next z s c).callers d ≡ s.callers d }
-    ensures history { (z : Lane) (s : State) (c : ℕ) → (next z s c).history
-        ≡ s.history ++ grown z s.callers c (s.callers c).turn (read s.memory (target (s.callers c).turn)) }
-    ensures own_command { (z : Lane) (s : State) (c : ℕ) → GoesOnOrEnds c (s.callers c) ((next z s c).callers c) }
+    ensures others { (z : LaneSizes) (s : State) (c d : ℕ) → d ≢ c → (next z s c).callers d ≡ s.callers d }
+    ensures history { (z : LaneSizes) (s : State) (c : ℕ) → (next z s c).history
+        ≡ s.history ++ added_by z s.callers c (s.callers c).point (read s.memory (target (s.callers c).point)) }
+    ensures own_command { (z : LaneSizes) (s : State) (c : ℕ) → GoesOnOrEnds c (s.callers c) ((next z s c).callers c) }
+{}
+
+/// A start keeps the given operations and the moment, and no more is told of its command; where a row or an announcement is
+/// lacking, the command ends with Full at once. A step leaves all this, or ends the command with Done, and its group joins
+/// the caller's.
+pub fn starts_and_ends_are_noted()
+    ensures begins { (z : LaneSizes) (s : State) (c : ℕ) (ops : List Op) → Lawful z s → IsCommand ops → (s.callers c).point ≡ Idle
+        → ¬ (LacksRows z (mine s.history c) ops) → Begins (length s.history) ops (s.callers c) ((start z s c ops).callers c) }
+    ensures full { (z : LaneSizes) (s : State) (c : ℕ) (ops : List Op) → Lawful z s → IsCommand ops → (s.callers c).point ≡ Idle
+        → LacksRows z (mine s.history c) ops → EndsFull (length s.history) (s.callers c) ((start z s c ops).callers c) }
+    ensures step { (z : LaneSizes) (s : State) (c : ℕ) → IsNoted (length (next z s c).history) c (s.callers c) ((next z s c).callers c) }
+{}
+
+/// A step leaves every word but its own.
+pub fn a_step_stores_into_one_word()
+    ensures { (z : LaneSizes) (s : State) (c : ℕ) (l : Location) → l ≢ target (s.callers c).point → read (next z s c).memory l ≡ read s.memory l }
+{}
+
+/// An empty lane holds what its table opens with, and a row is its home's.
+pub fn a_lane_opens_as_its_table()
+    ensures opening { (shape : Shape) (l : Location) → read (opening (lane_sizes shape)).memory l ≡ opening_of shape l }
+    ensures home { (shape : Shape) (c r : ℕ) → IsHome shape c r → (lane_sizes shape).home r ≡ c }
 {}
 
 /// In a lawful lane a command that was done has its group in the history, once, and its answers are the replay's there.
 /// The groups of an idle caller are those of its commands that were done, so one that ended with Full has none.
 pub fn ended_commands_stand_in_the_history()
-    ensures done { (z : Lane) (s : State) (c : ℕ) → Lawful z s → (s.callers c).turn ≡ Idle → (s.callers c).outcome ≡ Some Done → EndedDone s c }
-    ensures full { (z : Lane) (s : State) (c : ℕ) → Lawful z s → (s.callers c).outcome ≢ Some Done → (s.callers c).answers ≡ [] }
-    ensures own_groups { (z : Lane) (s : State) (c : ℕ) → Lawful z s → (s.callers c).turn ≡ Idle → mine s.history c ≡ (s.callers c).mine }
-    ensures once { (z : Lane) (s : State) (before behind : List Group) (g : Group) → Lawful z s
+    ensures done { (z : LaneSizes) (s : State) (c : ℕ) → Lawful z s → (s.callers c).point ≡ Idle → (s.callers c).outcome ≡ Some Done → EndedDone s c }
+    ensures full { (z : LaneSizes) (s : State) (c : ℕ) → Lawful z s → (s.callers c).outcome ≢ Some Done → (s.callers c).answers ≡ [] }
+    ensures own_groups { (z : LaneSizes) (s : State) (c : ℕ) → Lawful z s → (s.callers c).point ≡ Idle → mine s.history c ≡ (s.callers c).mine }
+    ensures once { (z : LaneSizes) (s : State) (before behind : List Group) (g : Group) → Lawful z s
         → s.history ≡ (before ++ g ∷ []) ++ behind → times g s.history ≡ 1 }
 {}
 
 /// A command of an idle caller ends with Full at once exactly where the caller's enqueues so far and the new ones are more
 /// than its item rows, or where it has several operations and the caller made as many such commands as it has announcements.
 pub fn full_comes_exactly_without_a_row()
-    ensures { (z : Lane) (s : State) (c : ℕ) (ops : List Op) → Lawful z s → IsCommand ops → (s.callers c).turn ≡ Idle
-        → ((begun z (length s.history) c (s.callers c) ops).turn ≡ Idle) ↔ LacksRows z (mine s.history c) ops }
+    ensures { (z : LaneSizes) (s : State) (c : ℕ) (ops : List Op) → Lawful z s → IsCommand ops → (s.callers c).point ≡ Idle
+        → ((begun z (length s.history) c (s.callers c) ops).point ≡ Idle) ↔ LacksRows z (mine s.history c) ops }
 {}
 
 /// In a lawful lane each step touches a word of the lane and finds in it what is in range, and no count passes the limit.
 pub fn counts_stay_in_range()
-    ensures word { (shape : Shape) (s : State) (c : ℕ) → Lawful (lane_of shape) s → IsWord (lane_of shape).rows ((lane_of shape).callers * (lane_of shape).callers) (target (s.callers c).turn) }
-    ensures found { (shape : Shape) (s : State) (c : ℕ) → Lawful (lane_of shape) s → NamesRows (lane_of shape).rows (target (s.callers c).turn) (read s.memory (target (s.callers c).turn)) }
-    ensures raised { (shape : Shape) (s : State) (c : ℕ) → Lawful (lane_of shape) s → CountsFit (s.callers c).turn }
-    ensures tail { (shape : Shape) (s : State) → Lawful (lane_of shape) s → s.memory.tail.count < 2 ^ 44 }
-    ensures head { (shape : Shape) (s : State) (p : Place) → Lawful (lane_of shape) s → s.memory.head ≡ Node p → p.count < 2 ^ 44 }
-    ensures announced { (shape : Shape) (s : State) (a n : ℕ) → Lawful (lane_of shape) s → s.memory.head ≡ Ann a n → n < 2 ^ 44 }
+    ensures word { (shape : Shape) (s : State) (c : ℕ) → Lawful (lane_sizes shape) s → IsWord (lane_sizes shape).rows ((lane_sizes shape).callers * (lane_sizes shape).callers) (target (s.callers c).point) }
+    ensures found { (shape : Shape) (s : State) (c : ℕ) → Lawful (lane_sizes shape) s → NamesRows (lane_sizes shape).rows (target (s.callers c).point) (read s.memory (target (s.callers c).point)) }
+    ensures raised { (shape : Shape) (s : State) (c : ℕ) → Lawful (lane_sizes shape) s → CountsFit (s.callers c).point }
+    ensures tail { (shape : Shape) (s : State) → Lawful (lane_sizes shape) s → s.memory.tail.count < 2 ^ 44 }
+    ensures head { (shape : Shape) (s : State) (p : Place) → Lawful (lane_sizes shape) s → s.memory.head ≡ Node p → p.count < 2 ^ 44 }
+    ensures announced { (shape : Shape) (s : State) (a n : ℕ) → Lawful (lane_sizes shape) s → s.memory.head ≡ Ann a n → n < 2 ^ 44 }
 {}
 
 /// The words of a lawful lane show the last queue of its history, also while an announcement stands in HEAD.
 pub fn words_show_the_last_queue()
-    ensures { (z : Lane) (s : State) → Lawful z s → Shows s.memory (last_queue s.history) }
+    ensures { (z : LaneSizes) (s : State) → Lawful z s → Shows s.memory (last_queue s.history) }
 {}
 
 /// An announcement that stands in HEAD says what the running command of its owner is. The step that links its chain adds
 /// the group of that command to the history, whichever caller makes it.
 pub fn announced_batch_is_its_owners()
-    ensures told { (z : Lane) (s : State) (a n : ℕ) → Lawful z s → s.memory.head ≡ Ann a n
-        → Tells (owner_of z a) (command (s.callers (owner_of z a))) (s.memory.said a) }
-    ensures added { (z : Lane) (s : State) (c : ℕ) (h : Help) (p : Place) → (s.callers c).turn ≡ LinkChain h p → s.memory.link p.row ≡ Nil
+    ensures told { (z : LaneSizes) (s : State) (a n : ℕ) → Lawful z s → s.memory.head ≡ Ann a n
+        → Describes (owner_of z a) (command (s.callers (owner_of z a))) (s.memory.notice a) }
+    ensures added { (z : LaneSizes) (s : State) (c : ℕ) (h : Help) (p : Place) → (s.callers c).point ≡ Point.Help h (HelpPoint.LinkChain p) → s.memory.link p.row ≡ Nil
         → (next z s c).history ≡ s.history ++ own_group (owner_of z h.ann) (s.callers (owner_of z h.ann)) ∷ [] }
 {}

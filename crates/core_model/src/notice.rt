@@ -2,7 +2,7 @@
 ghost use Rattle.std.specs.Prelude.{◌≡◌};
 ghost use Rattle.core_model.specs.Notices.{field_in, dummy_of, dummy_in, chain_end_in, counts_in, number_in, order_in, with_field, blank};
 
-use crate::turn::Notice;
+use crate::point::Notice;
 use word_rows::{AnnField, BatchCounts, BatchNumber, Content, HeadWord, Place};
 
 impl Notice {

@@ -7,11 +7,13 @@ use Rattle.bq_model.specs.declared.op.Op.TheVariants.{Enq, Deq}
 use Rattle.std.proofs.lemmas.List.Sums.{sum_by-cons}
 use Rattle.excess_count.specs.Excess.{is_enqueue, enqueue_count}
 use Rattle.excess_count.specs.Got.{enqueued}
-use Rattle.core_model.specs.declared.turn.Turn.TheVariants.{Idle, BatchValue}
-use Rattle.core_model.specs.Lane.{Lane}
+use Rattle.core_model.specs.declared.point.Point.TheVariants.{Idle}
+use Rattle.core_model.specs.declared.point.Point.TheVariants as point
+use Rattle.core_model.specs.declared.point.BatchPoint.TheVariants as batch
+use Rattle.core_model.specs.LaneSizes.{LaneSizes, item}
 use Rattle.core_model.specs.Lawful.{Lawful}
 use Rattle.core_model.specs.State.{Caller, State}
-use Rattle.core_model.specs.Start.{IsCommand, LacksRows, draft_of, first_turn, begun, start}
+use Rattle.core_model.specs.Start.{IsCommand, LacksRows, draft_of, first_point, begun, start}
 use Rattle.core_model.proofs.Ends.{full_exactly}
 use Rattle.core_model.proofs.Puts.{put_here}
 use Rattle.step_core.specs.Commands.{is_command}
@@ -26,12 +28,12 @@ command_is most ops is = by (ltb 0 (length ops)) (leb (length ops) most) (leb (l
   by false b c d some fits one many is = absurd (cc is)
 
 -- a batch begins with its first value
-pub many_first : (z : Lane) (c : ℕ) (k : Caller) (ops : List Op) → 1 < length ops → first_turn z c k ops ≡ BatchValue (draft_of z c k ops) 0 (get_or (enqueued ops) 0 0)
+pub many_first : (z : LaneSizes) (c : ℕ) (k : Caller) (ops : List Op) → 1 < length ops → first_point z c k ops ≡ point.Batch (draft_of z c k ops) (batch.StoreValue 0 (item z c k.taken) (get_or (enqueued ops) 0 0))
 many_first z c k [] more = absurd (omega arith)
 many_first z c k (op ∷ []) more = absurd (omega arith)
 many_first z c k (op ∷ next ∷ ops) more = refl
 
-pub one_first : (z : Lane) (c : ℕ) (k : Caller) (ops : List Op) (d : Op) → length ops ≡ 1 → first_turn z c k (get_or ops 0 d ∷ []) ≡ first_turn z c k ops
+pub one_first : (z : LaneSizes) (c : ℕ) (k : Caller) (ops : List Op) (d : Op) → length ops ≡ 1 → first_point z c k (get_or ops 0 d ∷ []) ≡ first_point z c k ops
 one_first z c k [] d one = absurd (omega arith)
 one_first z c k (op ∷ []) d one = refl
 one_first z c k (op ∷ next ∷ ops) d one = absurd (omega arith)
@@ -42,6 +44,6 @@ length-enqueued (Enq v ∷ ops) = ap suc (length-enqueued ops) ∙ (let e = sum_
 length-enqueued (Deq ∷ ops) = length-enqueued ops
 
 -- a command ends with Full at once exactly where rows or announcements are lacking
-pub start_full : (z : Lane) (s : State) (c : ℕ) (ops : List Op) → Lawful z s → IsCommand ops → (s.callers c).turn ≡ Idle
-    → (((start z s c ops).callers c).turn ≡ Idle) ↔ LacksRows z (mine s.history c) ops
-start_full z s c ops L is idle = subst (λ (k : Caller). (k.turn ≡ Idle) ↔ LacksRows z (mine s.history c) ops) (sym (put_here s.callers c (begun z (length s.history) c (s.callers c) ops))) (full_exactly z s L c ops is idle)
+pub start_full : (z : LaneSizes) (s : State) (c : ℕ) (ops : List Op) → Lawful z s → IsCommand ops → (s.callers c).point ≡ Idle
+    → (((start z s c ops).callers c).point ≡ Idle) ↔ LacksRows z (mine s.history c) ops
+start_full z s c ops L is idle = subst (λ (k : Caller). (k.point ≡ Idle) ↔ LacksRows z (mine s.history c) ops) (sym (put_here s.callers c (begun z (length s.history) c (s.callers c) ops))) (full_exactly z s L c ops is idle)

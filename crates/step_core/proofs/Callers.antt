@@ -7,13 +7,13 @@ use Rattle.std.specs.declared.alloc.Global.{Global}
 use Rattle.bq_model.specs.declared.group.Group.{Group}
 use Rattle.word_rows.specs.declared.location.Location.{Location}
 use Rattle.word_rows.specs.declared.content.Content.{Content}
-use Rattle.core_model.specs.declared.turn.Turn.{Turn}
+use Rattle.core_model.specs.declared.point.Point.{Point}
 use Rattle.core_model.specs.Functions.{put}
 use Rattle.core_model.specs.State.{Caller, State, read, write}
+use Rattle.core_model.specs.Step.{target, stored, history_with, after, step_at, next}
 use Rattle.bq_model.specs.declared.op.Op.{Op}
-use Rattle.core_model.specs.Lane.{lane_of}
+use Rattle.core_model.specs.LaneSizes.{lane_sizes}
 use Rattle.core_model.specs.Start.{newcomer, has_rows, started, refused, start}
-use Rattle.core_model.specs.Step.{target, stored, grown, after, step_at, next}
 use Rattle.core_model.proofs.Puts.{put_all, put_same, put_here}
 use Rattle.step_core.specs.declared.call.Call.{Call}
 use Rattle.step_core.specs.declared.words.Words.{Words}
@@ -46,13 +46,13 @@ due_kept ks c old new below is same = let e = due_set ks c new below in
     let was = ap due (caller_is ks c old below is) in let now = ap due (ap (λ (f : ℕ → Caller). f c) (callers_set ks c new below) ∙ put_here (callers_of ks) c (call_of new)) in omega arith
 
 -- a load, a store, what the history gains and what the caller keeps are a step
-pub step_is : (a d e : Lists) (w : Words) (c n : ℕ) (t : Turn) (l : Location) (x : Content) → t ≡ (callers_of a.calls.items c).turn → l ≡ target t → x ≡ read (memory_of a.words) l
-    → memory_of w ≡ write (memory_of a.words) l (stored t x) → d.words ≡ w → d.calls ≡ a.calls → d.history.items ≡ a.history.items ++ grown (lane_of a.shape) (callers_of a.calls.items) c t x
+pub step_is : (a d e : Lists) (w : Words) (c n : ℕ) (t : Point) (l : Location) (x : Content) → t ≡ (callers_of a.calls.items c).point → l ≡ target t → x ≡ read (memory_of a.words) l
+    → memory_of w ≡ write (memory_of a.words) l (stored t x) → d.words ≡ w → d.calls ≡ a.calls → d.history.items ≡ history_with (lane_sizes a.shape) (state_of a) c t x
     → e.words ≡ d.words → e.history ≡ d.history → n ≡ length d.history.items
-    → callers_of e.calls.items ≡ put (callers_of d.calls.items) c (after n c (callers_of d.calls.items c) (callers_of d.calls.items c).turn x)
-    → state_of e ≡ next (lane_of a.shape) (state_of a) c
+    → callers_of e.calls.items ≡ put (callers_of d.calls.items) c (after n c (callers_of d.calls.items c) (callers_of d.calls.items c).point x)
+    → state_of e ≡ next (lane_sizes a.shape) (state_of a) c
 unfolding next
-step_is a d e w c n t l x at names found writes words calls grew words' history' now goes = whole ∙ ap (step_at (lane_of a.shape) (state_of a) c) at where
+step_is a d e w c n t l x at names found writes words calls grew words' history' now goes = whole ∙ ap (step_at (lane_sizes a.shape) (state_of a) c) at where
   held : x ≡ read (memory_of a.words) (target t)
   held = found ∙ ap (read (memory_of a.words)) names
 
@@ -62,16 +62,16 @@ step_is a d e w c n t l x at names found writes words calls grew words' history'
   callers : callers_of d.calls.items ≡ callers_of a.calls.items
   callers = ap (λ (v : Vec Call Global). callers_of v.items) calls
 
-  history : e.history.items ≡ a.history.items ++ grown (lane_of a.shape) (callers_of a.calls.items) c t (read (memory_of a.words) (target t))
-  history = ap (λ (v : Vec Group Global). v.items) history' ∙ (grew ∙ (λ i. a.history.items ++ grown (lane_of a.shape) (callers_of a.calls.items) c t (held i)))
+  history : e.history.items ≡ history_with (lane_sizes a.shape) (state_of a) c t (read (memory_of a.words) (target t))
+  history = ap (λ (v : Vec Group Global). v.items) history' ∙ (grew ∙ (λ i. history_with (lane_sizes a.shape) (state_of a) c t (held i)))
 
-  count : n ≡ length (a.history.items ++ grown (lane_of a.shape) (callers_of a.calls.items) c t (read (memory_of a.words) (target t)))
-  count = now ∙ ap length (grew ∙ (λ i. a.history.items ++ grown (lane_of a.shape) (callers_of a.calls.items) c t (held i)))
+  count : n ≡ length (history_with (lane_sizes a.shape) (state_of a) c t (read (memory_of a.words) (target t)))
+  count = now ∙ ap length (grew ∙ (λ i. history_with (lane_sizes a.shape) (state_of a) c t (held i)))
 
-  goes' : callers_of e.calls.items ≡ put (callers_of a.calls.items) c (after (length (a.history.items ++ grown (lane_of a.shape) (callers_of a.calls.items) c t (read (memory_of a.words) (target t)))) c (callers_of a.calls.items c) t (read (memory_of a.words) (target t)))
-  goes' = goes ∙ (λ i. put (callers i) c (after (count i) c (callers i c) ((ap (λ (f : ℕ → Caller). (f c).turn) callers ∙ sym at) i) (held i)))
+  goes' : callers_of e.calls.items ≡ put (callers_of a.calls.items) c (after (length (history_with (lane_sizes a.shape) (state_of a) c t (read (memory_of a.words) (target t)))) c (callers_of a.calls.items c) t (read (memory_of a.words) (target t)))
+  goes' = goes ∙ (λ i. put (callers i) c (after (count i) c (callers i c) ((ap (λ (f : ℕ → Caller). (f c).point) callers ∙ sym at) i) (held i)))
 
-  whole : state_of e ≡ step_at (lane_of a.shape) (state_of a) c t
+  whole : state_of e ≡ step_at (lane_sizes a.shape) (state_of a) c t
   whole = λ i. record { memory = memory i; history = history i; callers = goes' i }
 
 pub get_set : (ks : List Call) (c : ℕ) (k : Call) → c < length ks → slice_get (slice_set ks c k) c ≡ Some k
@@ -80,27 +80,27 @@ get_set (x ∷ ks) zero k below = refl
 get_set (x ∷ ks) (suc c) k below = get_set ks c k (omega arith)
 
 -- a command that begins on lists which show the same lane
-pub begun_is : (a r e : Lists) (c n : ℕ) (ops : List Op) → state_of r ≡ state_of a → r.shape ≡ a.shape → n ≡ length r.history.items → has_rows (lane_of a.shape) (callers_of a.calls.items c) ops ≡ true
+pub begun_is : (a r e : Lists) (c n : ℕ) (ops : List Op) → state_of r ≡ state_of a → r.shape ≡ a.shape → n ≡ length r.history.items → has_rows (lane_sizes a.shape) (callers_of a.calls.items c) ops ≡ true
     → (state_of e).memory ≡ (state_of r).memory → (state_of e).history ≡ (state_of r).history
-    → callers_of e.calls.items ≡ put (callers_of r.calls.items) c (started (lane_of r.shape) n c (callers_of r.calls.items c) ops) → state_of e ≡ start (lane_of a.shape) (state_of a) c ops
+    → callers_of e.calls.items ≡ put (callers_of r.calls.items) c (started (lane_sizes r.shape) n c (callers_of r.calls.items c) ops) → state_of e ≡ start (lane_sizes a.shape) (state_of a) c ops
 begun_is a r e c n ops same shape now rows memory history callers = λ i. record {
   memory = (memory ∙ ap (λ (s : State). s.memory) same) i;
   history = (history ∙ ap (λ (s : State). s.history) same) i;
-  callers = (callers ∙ (begun ∙ ap (λ (b : Bool). put (callers_of a.calls.items) c (cond b (started (lane_of a.shape) (length a.history.items) c (callers_of a.calls.items c) ops) (refused (lane_of a.shape) (length a.history.items) c (callers_of a.calls.items c)))) (sym rows))) i;
+  callers = (callers ∙ (begun ∙ ap (λ (b : Bool). put (callers_of a.calls.items) c (cond b (started (lane_sizes a.shape) (length a.history.items) c (callers_of a.calls.items c) ops) (refused (lane_sizes a.shape) (length a.history.items) c (callers_of a.calls.items c)))) (sym rows))) i;
 } where
   count : n ≡ length a.history.items
   count = now ∙ ap (λ (s : State). length s.history) same
 
-  begun : put (callers_of r.calls.items) c (started (lane_of r.shape) n c (callers_of r.calls.items c) ops) ≡ put (callers_of a.calls.items) c (started (lane_of a.shape) (length a.history.items) c (callers_of a.calls.items c) ops)
-  begun = λ i. put (same i).callers c (started (lane_of (shape i)) (count i) c ((same i).callers c) ops)
+  begun : put (callers_of r.calls.items) c (started (lane_sizes r.shape) n c (callers_of r.calls.items c) ops) ≡ put (callers_of a.calls.items) c (started (lane_sizes a.shape) (length a.history.items) c (callers_of a.calls.items c) ops)
+  begun = λ i. put (same i).callers c (started (lane_sizes (shape i)) (count i) c ((same i).callers c) ops)
 
 -- one that ends with Full at once
-pub refused_is : (a e : Lists) (c n : ℕ) (ops : List Op) → n ≡ length a.history.items → has_rows (lane_of a.shape) (callers_of a.calls.items c) ops ≡ false
+pub refused_is : (a e : Lists) (c n : ℕ) (ops : List Op) → n ≡ length a.history.items → has_rows (lane_sizes a.shape) (callers_of a.calls.items c) ops ≡ false
     → (state_of e).memory ≡ (state_of a).memory → (state_of e).history ≡ (state_of a).history
-    → callers_of e.calls.items ≡ put (callers_of a.calls.items) c (refused (lane_of a.shape) n c (callers_of a.calls.items c)) → state_of e ≡ start (lane_of a.shape) (state_of a) c ops
+    → callers_of e.calls.items ≡ put (callers_of a.calls.items) c (refused (lane_sizes a.shape) n c (callers_of a.calls.items c)) → state_of e ≡ start (lane_sizes a.shape) (state_of a) c ops
 refused_is a e c n ops now rows memory history callers = λ i. record {
   memory = memory i;
   history = history i;
-  callers = (callers ∙ ((λ j. put (callers_of a.calls.items) c (refused (lane_of a.shape) (now j) c (callers_of a.calls.items c)))
-      ∙ ap (λ (b : Bool). put (callers_of a.calls.items) c (cond b (started (lane_of a.shape) (length a.history.items) c (callers_of a.calls.items c) ops) (refused (lane_of a.shape) (length a.history.items) c (callers_of a.calls.items c)))) (sym rows))) i;
+  callers = (callers ∙ ((λ j. put (callers_of a.calls.items) c (refused (lane_sizes a.shape) (now j) c (callers_of a.calls.items c)))
+      ∙ ap (λ (b : Bool). put (callers_of a.calls.items) c (cond b (started (lane_sizes a.shape) (length a.history.items) c (callers_of a.calls.items c) ops) (refused (lane_sizes a.shape) (length a.history.items) c (callers_of a.calls.items c)))) (sym rows))) i;
 }

@@ -4,7 +4,7 @@ use Rattle.std.specs.Vec.{with_item}
 use Rattle.word_rows.specs.declared.location.AnnField.{AnnField}
 use Rattle.word_rows.specs.declared.location.AnnField.TheVariants.{OldHead, OldTail, First, Last, Counts, BatchNo, Order0, Order1, Order2, Order3}
 use Rattle.word_rows.specs.declared.content.Content.{Content}
-use Rattle.core_model.specs.declared.turn.Notice.{Notice}
+use Rattle.core_model.specs.declared.point.Notice.{Notice}
 use Rattle.core_model.specs.Functions.{put}
 use Rattle.core_model.specs.Notices.{with_field, blank}
 use Rattle.core_model.specs.State.{write_field}
@@ -28,17 +28,17 @@ set_put xs i y d below = λ k j. put_all (λ j. get_or xs j d) i y (λ j v. get_
 pub notice_written : (w : Words) (a : ℕ) (f : AnnField) (x : Content) (old new : Notice) → a < length w.notices.items → f ≢ OldTail → old ≡ get_or w.notices.items a old → new ≡ with_field old f x
     → memory_of (record w { notices = with_item w.notices a new }) ≡ write_field (memory_of w) a f x
 notice_written w a f x old new below other was is = by f other is where
-  said : (f : AnnField) → new ≡ with_field old f x → (λ j. get_or (set w.notices.items a new) j blank) ≡ put (λ j. get_or w.notices.items j blank) a (with_field (get_or w.notices.items a blank) f x)
-  said f is = set_put w.notices.items a new blank below ∙ ap (put (λ j. get_or w.notices.items j blank) a) (is ∙ ap (λ (n : Notice). with_field n f x) (was ∙ same_at w.notices.items a old blank below))
+  notice : (f : AnnField) → new ≡ with_field old f x → (λ j. get_or (set w.notices.items a new) j blank) ≡ put (λ j. get_or w.notices.items j blank) a (with_field (get_or w.notices.items a blank) f x)
+  notice f is = set_put w.notices.items a new blank below ∙ ap (put (λ j. get_or w.notices.items j blank) a) (is ∙ ap (λ (n : Notice). with_field n f x) (was ∙ same_at w.notices.items a old blank below))
 
   by : (f : AnnField) → f ≢ OldTail → new ≡ with_field old f x → memory_of (record w { notices = with_item w.notices a new }) ≡ write_field (memory_of w) a f x
-  by OldHead o is = λ i. record (memory_of w) { said = said OldHead is i }
+  by OldHead o is = λ i. record (memory_of w) { notice = notice OldHead is i }
   by OldTail o is = absurd (o refl)
-  by First o is = λ i. record (memory_of w) { said = said First is i }
-  by Last o is = λ i. record (memory_of w) { said = said Last is i }
-  by Counts o is = λ i. record (memory_of w) { said = said Counts is i }
-  by BatchNo o is = λ i. record (memory_of w) { said = said BatchNo is i }
-  by Order0 o is = λ i. record (memory_of w) { said = said Order0 is i }
-  by Order1 o is = λ i. record (memory_of w) { said = said Order1 is i }
-  by Order2 o is = λ i. record (memory_of w) { said = said Order2 is i }
-  by Order3 o is = λ i. record (memory_of w) { said = said Order3 is i }
+  by First o is = λ i. record (memory_of w) { notice = notice First is i }
+  by Last o is = λ i. record (memory_of w) { notice = notice Last is i }
+  by Counts o is = λ i. record (memory_of w) { notice = notice Counts is i }
+  by BatchNo o is = λ i. record (memory_of w) { notice = notice BatchNo is i }
+  by Order0 o is = λ i. record (memory_of w) { notice = notice Order0 is i }
+  by Order1 o is = λ i. record (memory_of w) { notice = notice Order1 is i }
+  by Order2 o is = λ i. record (memory_of w) { notice = notice Order2 is i }
+  by Order3 o is = λ i. record (memory_of w) { notice = notice Order3 is i }

@@ -10,19 +10,21 @@ use Rattle.bq_model.specs.Own.{mine}
 use Rattle.excess_count.specs.Excess.{is_dequeue}
 use Rattle.word_rows.specs.declared.batch_words.BatchCounts.{BatchCounts}
 use Rattle.std.proofs.lemmas.List.Sums.{count_by-le-length}
-use Rattle.core_model.specs.declared.turn.Turn.{Turn}
-use Rattle.core_model.specs.declared.turn.Turn.TheVariants.{Idle, AnswerValue}
-use Rattle.core_model.specs.Lane.{Lane}
-use Rattle.core_model.specs.State.{Caller, State, read}
-use Rattle.core_model.specs.Step.{own_group, target, grows, grown, lander, next}
-use Rattle.core_model.specs.Facts.{Each, turn_facts}
+use Rattle.core_model.specs.declared.point.Point.{Point}
+use Rattle.core_model.specs.declared.point.Point.TheVariants.{Idle}
+use Rattle.core_model.specs.declared.point.Point.TheVariants as point
+use Rattle.core_model.specs.declared.point.AnswerPoint.TheVariants as answer
+use Rattle.core_model.specs.LaneSizes.{LaneSizes}
+use Rattle.core_model.specs.State.{Caller, State, read, own_group}
+use Rattle.core_model.specs.Step.{target, linearizes, added_by, group_owner, next}
+use Rattle.core_model.specs.Facts.{AtPoint}
 use Rattle.core_model.specs.Lawful.{Lawful}
-use Rattle.core_model.proofs.Stays.{world}
+use Rattle.core_model.proofs.Stable.{world}
 use Rattle.core_model.proofs.Runs.{length-run}
 use Rattle.core_model.proofs.Groups.{mine-push_own, mine-push_other}
-use Rattle.core_model.proofs.Keeps.{known}
-use Rattle.core_model.proofs.Steps.{keeps_next}
-use Rattle.core_model.proofs.Alone.{others_stay, history_grows, goes_on_or_ends}
+use Rattle.core_model.proofs.Preserves.{known}
+use Rattle.core_model.proofs.Steps.{preserves_next}
+use Rattle.core_model.proofs.Alone.{others_stay, history_added, goes_on_or_ends}
 use Rattle.step_core.specs.Due.{is_idle, due}
 use Rattle.step_core.proofs.Totals.{total, total_le, total_all, total_groups}
 
@@ -30,30 +32,30 @@ use Rattle.step_core.proofs.Totals.{total, total_le, total_all, total_groups}
 abbrev one : Bool → ℕ
 one idle = cond idle 0 1
 
-pub idle_is : (t : Turn) → is_idle t ≡ true → t ≡ Idle
+pub idle_is : (t : Point) → is_idle t ≡ true → t ≡ Idle
 idle_is Idle e = refl
 idle_is _ e = absurd (cc e)
 
-pub not_idle : (t : Turn) → t ≢ Idle → is_idle t ≡ false
+pub not_idle : (t : Point) → t ≢ Idle → is_idle t ≡ false
 not_idle t runs = by (is_idle t) refl where
   by : (b : Bool) → is_idle t ≡ b → is_idle t ≡ false
   by true e = absurd (runs (idle_is t e))
   by false e = e
 
-module _ (z : Lane) (s : State) (L : Lawful z s) where
+module _ (z : LaneSizes) (s : State) (L : Lawful z s) where
   -- those of a caller's ended commands stand in the history, and no others but that of a running one
   pub mine_least : (c : ℕ) → length (s.callers c).mine ≤ length (mine s.history c)
-  mine_least c = let e = ap length (L.own_groups c) ∙ length-append (s.callers c).mine _ in omega arith
+  mine_least c = let e = ap length ((L.callers c).own_groups) ∙ length-append (s.callers c).mine _ in omega arith
 
   pub mine_most : (c : ℕ) → length (mine s.history c) ≤ due (s.callers c)
-  mine_most c = by (L.ghost.landed c) (is_idle (s.callers c).turn) refl refl where
-    by : (l i : Bool) → L.ghost.landed c ≡ l → is_idle (s.callers c).turn ≡ i → length (mine s.history c) ≤ length (s.callers c).mine + cond (is_idle (s.callers c).turn) 0 1
-    by true true on idle = absurd (differ (sym on ∙ (known z s L c Idle (idle_is (s.callers c).turn idle)).0.0)) where
+  mine_most c = by (L.ghost.linearized c) (is_idle (s.callers c).point) refl refl where
+    by : (l i : Bool) → L.ghost.linearized c ≡ l → is_idle (s.callers c).point ≡ i → length (mine s.history c) ≤ length (s.callers c).mine + cond (is_idle (s.callers c).point) 0 1
+    by true true on idle = absurd (differ (sym on ∙ (known z s L c Idle (idle_is (s.callers c).point idle)).call.0.0)) where
       differ : true ≡ false → ⊥
       differ e = cc e
-    by true false on idle = let e : length (mine s.history c) ≡ length (s.callers c).mine + 1 = ap length (L.own_groups c) ∙ (length-append (s.callers c).mine _ ∙ ap (λ (b : Bool). length (s.callers c).mine + length (cond b (own_group c (s.callers c) ∷ []) [])) on) in
+    by true false on idle = let e : length (mine s.history c) ≡ length (s.callers c).mine + 1 = ap length ((L.callers c).own_groups) ∙ (length-append (s.callers c).mine _ ∙ ap (λ (b : Bool). length (s.callers c).mine + length (cond b (own_group c (s.callers c) ∷ []) [])) on) in
         let runs = ap one idle in omega arith
-    by false i off idle = let e : length (mine s.history c) ≡ length (s.callers c).mine + 0 = ap length (L.own_groups c) ∙ (length-append (s.callers c).mine _ ∙ ap (λ (b : Bool). length (s.callers c).mine + length (cond b (own_group c (s.callers c) ∷ []) [])) off) in omega arith
+    by false i off idle = let e : length (mine s.history c) ≡ length (s.callers c).mine + 0 = ap length ((L.callers c).own_groups) ∙ (length-append (s.callers c).mine _ ∙ ap (λ (b : Bool). length (s.callers c).mine + length (cond b (own_group c (s.callers c) ∷ []) [])) off) in omega arith
 
   all_groups : total z.callers (λ c. length (mine s.history c)) ≡ length s.history
   all_groups = total_groups z.callers s.history (recursion_from_All (λ (g : Group). g.caller < z.callers) s.history L.history.known)
@@ -64,19 +66,19 @@ module _ (z : Lane) (s : State) (L : Lawful z s) where
 
   -- and no more are due than one of each caller on top
   pub due_groups : total z.callers (λ c. due (s.callers c)) ≤ length s.history + z.callers
-  due_groups = let e = all_groups in let le = total_all z.callers (λ c. length (mine s.history c)) (λ c. due (s.callers c)) (λ c _. let l = mine_least c in by c (is_idle (s.callers c).turn) l) in omega arith where
+  due_groups = let e = all_groups in let le = total_all z.callers (λ c. length (mine s.history c)) (λ c. due (s.callers c)) (λ c _. let l = mine_least c in by c (is_idle (s.callers c).point) l) in omega arith where
     by : (c : ℕ) (b : Bool) → length (s.callers c).mine ≤ length (mine s.history c) → length (s.callers c).mine + cond b 0 1 ≤ suc (length (mine s.history c))
     by c true l = omega arith
     by c false l = omega arith
 
-module _ (z : Lane) (s : State) (L : Lawful z s) (c : ℕ) (runs : (s.callers c).turn ≢ Idle) where
+module _ (z : LaneSizes) (s : State) (L : Lawful z s) (c : ℕ) (runs : (s.callers c).point ≢ Idle) where
   one_due : due (s.callers c) ≡ length (s.callers c).mine + 1
-  one_due = ap (λ (b : Bool). length (s.callers c).mine + cond b 0 1) (not_idle (s.callers c).turn runs)
+  one_due = ap (λ (b : Bool). length (s.callers c).mine + cond b 0 1) (not_idle (s.callers c).point runs)
 
   own_due : due ((next z s c).callers c) ≤ due (s.callers c)
   own_due = let was = one_due in let k' = (next z s c).callers c in ⊎_elim
-      (λ (w : (k'.ops ≡ (s.callers c).ops) × (k'.mine ≡ (s.callers c).mine)). let e = ap length w.1 in by k' (is_idle k'.turn) e)
-      (λ (w : (k'.turn ≡ Idle) × (k'.mine ≡ (s.callers c).mine ++ own_group c (s.callers c) ∷ [])). let e = ap length w.1 ∙ length-append (s.callers c).mine (own_group c (s.callers c) ∷ []) in let i = ap (λ (t : Turn). one (is_idle t)) w.0 in omega arith)
+      (λ (w : (k'.ops ≡ (s.callers c).ops) × (k'.mine ≡ (s.callers c).mine)). let e = ap length w.1 in by k' (is_idle k'.point) e)
+      (λ (w : (k'.point ≡ Idle) × (k'.mine ≡ (s.callers c).mine ++ own_group c (s.callers c) ∷ [])). let e = ap length w.1 ∙ length-append (s.callers c).mine (own_group c (s.callers c) ∷ []) in let i = ap (λ (t : Point). one (is_idle t)) w.0 in omega arith)
       (goes_on_or_ends z s c) where
         by : (k' : Caller) (b : Bool) → length k'.mine ≡ length (s.callers c).mine → length k'.mine + cond b 0 1 ≤ due (s.callers c)
         by k' true e = let was = one_due in omega arith
@@ -88,69 +90,69 @@ module _ (z : Lane) (s : State) (L : Lawful z s) (c : ℕ) (runs : (s.callers c)
       (λ apart. let e = ap due (others_stay z s c d apart) in omega arith)
 
   -- a command that goes on keeps its operations and the groups before it
-  pub goes_on_same : (d : ℕ) → ((next z s c).callers d).turn ≢ Idle
-      → ((s.callers d).turn ≢ Idle) × (((next z s c).callers d).ops ≡ (s.callers d).ops) × (((next z s c).callers d).mine ≡ (s.callers d).mine)
+  pub goes_on_same : (d : ℕ) → ((next z s c).callers d).point ≢ Idle
+      → ((s.callers d).point ≢ Idle) × (((next z s c).callers d).ops ≡ (s.callers d).ops) × (((next z s c).callers d).mine ≡ (s.callers d).mine)
   goes_on_same d still = dite (ℕ_discrete d c)
-      (λ same. subst (λ (e : ℕ). ((next z s c).callers e).turn ≢ Idle → ((s.callers e).turn ≢ Idle) × (((next z s c).callers e).ops ≡ (s.callers e).ops) × (((next z s c).callers e).mine ≡ (s.callers e).mine)) (sym same) own still)
-      (λ apart. let e = others_stay z s c d apart in ((λ idle. still (ap (λ (k : Caller). k.turn) e ∙ idle)), ap (λ (k : Caller). k.ops) e, ap (λ (k : Caller). k.mine) e)) where
-        own : ((next z s c).callers c).turn ≢ Idle → ((s.callers c).turn ≢ Idle) × (((next z s c).callers c).ops ≡ (s.callers c).ops) × (((next z s c).callers c).mine ≡ (s.callers c).mine)
+      (λ same. subst (λ (e : ℕ). ((next z s c).callers e).point ≢ Idle → ((s.callers e).point ≢ Idle) × (((next z s c).callers e).ops ≡ (s.callers e).ops) × (((next z s c).callers e).mine ≡ (s.callers e).mine)) (sym same) own still)
+      (λ apart. let e = others_stay z s c d apart in ((λ idle. still (ap (λ (k : Caller). k.point) e ∙ idle)), ap (λ (k : Caller). k.ops) e, ap (λ (k : Caller). k.mine) e)) where
+        own : ((next z s c).callers c).point ≢ Idle → ((s.callers c).point ≢ Idle) × (((next z s c).callers c).ops ≡ (s.callers c).ops) × (((next z s c).callers c).mine ≡ (s.callers c).mine)
         own still = let k' = (next z s c).callers c in ⊎_elim
             (λ (w : (k'.ops ≡ (s.callers c).ops) × (k'.mine ≡ (s.callers c).mine)). (runs, w.0, w.1))
-            (λ (w : (k'.turn ≡ Idle) × (k'.mine ≡ (s.callers c).mine ++ own_group c (s.callers c) ∷ [])). absurd (still w.0))
+            (λ (w : (k'.point ≡ Idle) × (k'.mine ≡ (s.callers c).mine ++ own_group c (s.callers c) ∷ [])). absurd (still w.0))
             (goes_on_or_ends z s c)
 
   -- there is room for the groups after the step where there is for those that are due
   pub room_after : length (next z s c).history ≤ total z.callers (λ d. due (s.callers d))
-  room_after = let now = groups_due z (next z s c) (keeps_next z s L c) in let le = total_le z.callers (λ d. due ((next z s c).callers d)) (λ d. due (s.callers d)) (λ d _. due_falls d) in omega arith
+  room_after = let now = groups_due z (next z s c) (preserves_next z s L c) in let le = total_le z.callers (λ d. due ((next z s c).callers d)) (λ d. due (s.callers d)) (λ d _. due_falls d) in omega arith
 
-  module _ (t : Turn) (at : t ≡ (s.callers c).turn) where
-    grew : grows t (read s.memory (target t)) ≡ true → (next z s c).history ≡ s.history ++ own_group (lander z c t) (s.callers (lander z c t)) ∷ []
-    grew g = subst (λ (u : Turn). (next z s c).history ≡ s.history ++ grown z s.callers c u (read s.memory (target u))) (sym at) (history_grows z s c)
-        ∙ ap (λ (b : Bool). s.history ++ cond b (own_group (lander z c t) (s.callers (lander z c t)) ∷ []) []) g
+  module _ (t : Point) (at : t ≡ (s.callers c).point) where
+    grew : linearizes t (read s.memory (target t)) ≡ true → (next z s c).history ≡ s.history ++ own_group (group_owner z c t) (s.callers (group_owner z c t)) ∷ []
+    grew g = subst (λ (u : Point). (next z s c).history ≡ s.history ++ added_by z s.callers c u (read s.memory (target u))) (sym at) (history_added z s c)
+        ∙ ap (λ (b : Bool). s.history ++ cond b (own_group (group_owner z c t) (s.callers (group_owner z c t)) ∷ []) []) g
 
-    pub stays : grows t (read s.memory (target t)) ≡ false → (next z s c).history ≡ s.history
-    stays g = subst (λ (u : Turn). (next z s c).history ≡ s.history ++ grown z s.callers c u (read s.memory (target u))) (sym at) (history_grows z s c)
-        ∙ (ap (λ (b : Bool). s.history ++ cond b (own_group (lander z c t) (s.callers (lander z c t)) ∷ []) []) g ∙ append-nil s.history)
+    pub leaves_history : linearizes t (read s.memory (target t)) ≡ false → (next z s c).history ≡ s.history
+    leaves_history g = subst (λ (u : Point). (next z s c).history ≡ s.history ++ added_by z s.callers c u (read s.memory (target u))) (sym at) (history_added z s c)
+        ∙ (ap (λ (b : Bool). s.history ++ cond b (own_group (group_owner z c t) (s.callers (group_owner z c t)) ∷ []) []) g ∙ append-nil s.history)
 
-    module _ (g : grows t (read s.memory (target t)) ≡ true) where
+    module _ (g : linearizes t (read s.memory (target t)) ≡ true) where
       -- the history grows by one group
       pub one_more : length s.history < total z.callers (λ e. due (s.callers e))
-      one_more = let room = room_after in let e = ap length (grew g) ∙ length-append s.history (own_group (lander z c t) (s.callers (lander z c t)) ∷ []) in omega arith
+      one_more = let room = room_after in let e = ap length (grew g) ∙ length-append s.history (own_group (group_owner z c t) (s.callers (group_owner z c t)) ∷ []) in omega arith
 
       -- of one of the callers
-      pub lander_known : lander z c t < z.callers
-      lander_known = let own = own_group (lander z c t) (s.callers (lander z c t)) in
+      pub owner_known : group_owner z c t < z.callers
+      owner_known = let own = own_group (group_owner z c t) (s.callers (group_owner z c t)) in
           subst (λ (x : Group). x.caller < z.callers) (get_or-append_seam s.history own [] own)
-          (subst (All (λ (x : Group). x.caller < z.callers)) (grew g) (keeps_next z s L c).history.known (length s.history) own (let e = length-append s.history (own ∷ []) in omega arith))
+          (subst (All (λ (x : Group). x.caller < z.callers)) (grew g) (preserves_next z s L c).history.known (length s.history) own (let e = length-append s.history (own ∷ []) in omega arith))
 
-      own_more : length (mine (next z s c).history (lander z c t)) ≡ length (mine s.history (lander z c t)) + 1
-      own_more = let own = own_group (lander z c t) (s.callers (lander z c t)) in ap (λ (h : List Group). length (mine h (lander z c t))) (grew g)
-          ∙ (ap length (mine-push_own s.history own) ∙ length-append (mine s.history (lander z c t)) (own ∷ []))
+      own_more : length (mine (next z s c).history (group_owner z c t)) ≡ length (mine s.history (group_owner z c t)) + 1
+      own_more = let own = own_group (group_owner z c t) (s.callers (group_owner z c t)) in ap (λ (h : List Group). length (mine h (group_owner z c t))) (grew g)
+          ∙ (ap length (mine-push_own s.history own) ∙ length-append (mine s.history (group_owner z c t)) (own ∷ []))
 
       -- whose command runs, and had none in the history
-      pub lander_waits : ((s.callers (lander z c t)).turn ≢ Idle) × (length (mine s.history (lander z c t)) ≡ length (s.callers (lander z c t)).mine)
-      lander_waits = let most = mine_most z (next z s c) (keeps_next z s L c) (lander z c t) in let falls = due_falls (lander z c t) in let least = mine_least z s L (lander z c t) in let more = own_more in by (is_idle (s.callers (lander z c t)).turn) refl
-          (let sum : length (mine s.history (lander z c t)) + 1 ≤ length (s.callers (lander z c t)).mine + cond (is_idle (s.callers (lander z c t)).turn) 0 1 = omega arith in sum) least where
-            by : (b : Bool) → is_idle (s.callers (lander z c t)).turn ≡ b → length (mine s.history (lander z c t)) + 1 ≤ length (s.callers (lander z c t)).mine + cond (is_idle (s.callers (lander z c t)).turn) 0 1
-                → length (s.callers (lander z c t)).mine ≤ length (mine s.history (lander z c t))
-                → ((s.callers (lander z c t)).turn ≢ Idle) × (length (mine s.history (lander z c t)) ≡ length (s.callers (lander z c t)).mine)
+      pub owner_waits : ((s.callers (group_owner z c t)).point ≢ Idle) × (length (mine s.history (group_owner z c t)) ≡ length (s.callers (group_owner z c t)).mine)
+      owner_waits = let most = mine_most z (next z s c) (preserves_next z s L c) (group_owner z c t) in let falls = due_falls (group_owner z c t) in let least = mine_least z s L (group_owner z c t) in let more = own_more in by (is_idle (s.callers (group_owner z c t)).point) refl
+          (let sum : length (mine s.history (group_owner z c t)) + 1 ≤ length (s.callers (group_owner z c t)).mine + cond (is_idle (s.callers (group_owner z c t)).point) 0 1 = omega arith in sum) least where
+            by : (b : Bool) → is_idle (s.callers (group_owner z c t)).point ≡ b → length (mine s.history (group_owner z c t)) + 1 ≤ length (s.callers (group_owner z c t)).mine + cond (is_idle (s.callers (group_owner z c t)).point) 0 1
+                → length (s.callers (group_owner z c t)).mine ≤ length (mine s.history (group_owner z c t))
+                → ((s.callers (group_owner z c t)).point ≢ Idle) × (length (mine s.history (group_owner z c t)) ≡ length (s.callers (group_owner z c t)).mine)
             by true i sum least = let none = ap one i in absurd (omega arith)
             by false i sum least = let runs' = ap one i in ((λ idle. differ (sym i ∙ ap is_idle idle)), omega arith) where
               differ : false ≡ true → ⊥
               differ e = cc e
 
       -- a caller whose command still has none in the history is another one
-      pub another : (e : ℕ) → ((next z s c).callers e).turn ≢ Idle → length (mine (next z s c).history e) ≡ length ((next z s c).callers e).mine → e ≢ lander z c t
+      pub another : (e : ℕ) → ((next z s c).callers e).point ≢ Idle → length (mine (next z s c).history e) ≡ length ((next z s c).callers e).mine → e ≢ group_owner z c t
       another e still none same = let P : ℕ → Type 0 = λ i. length (mine (next z s c).history i) ≡ length ((next z s c).callers i).mine in
           let here = subst P same none in let kept = subst (λ (i : ℕ). ((next z s c).callers i).mine ≡ (s.callers i).mine) same (goes_on_same e still).2 in
-          let len = ap length kept in let more = own_more in let least = lander_waits.1 in absurd (omega arith)
+          let len = ap length kept in let more = own_more in let least = owner_waits.1 in absurd (omega arith)
 
-      pub others_mine : (e : ℕ) → e ≢ lander z c t → mine (next z s c).history e ≡ mine s.history e
-      others_mine e apart = ap (λ (h : List Group). mine h e) (grew g) ∙ mine-push_other s.history (own_group (lander z c t) (s.callers (lander z c t))) e apart
+      pub others_mine : (e : ℕ) → e ≢ group_owner z c t → mine (next z s c).history e ≡ mine s.history e
+      others_mine e apart = ap (λ (h : List Group). mine h e) (grew g) ∙ mine-push_other s.history (own_group (group_owner z c t) (s.callers (group_owner z c t))) e apart
 
 -- a batch that reads a value has fewer of them than operations
-pub values_fit : (z : Lane) (s : State) → Lawful z s → (c m r l : ℕ) → (s.callers c).turn ≡ AnswerValue m r l → length (s.callers c).values < length (s.callers c).ops
-values_fit z s L c m r l is = by (known z s L c (AnswerValue m r l) is) where
-  by : Each z (world s L.ghost) c (turn_facts z c (s.callers c) (AnswerValue m r l)) → length (s.callers c).values < length (s.callers c).ops
-  by (on, ((a, i, d, R, x, m_is, sum, row, vals), _)) = let n = ap length vals ∙ length-run (λ j. s.memory.value (L.ghost.path j)) (suc R.dummy) x in
-      let counts = ap (λ (k : BatchCounts). k.deqs) R.counts in let most = count_by-le-length is_dequeue (s.callers c).ops in let total = sum in omega arith
+pub values_fit : (z : LaneSizes) (s : State) → Lawful z s → (c m r l : ℕ) → (s.callers c).point ≡ point.Answer (answer.LoadValue m r l) → length (s.callers c).values < length (s.callers c).ops
+values_fit z s L c m r l is = by (known z s L c (point.Answer (answer.LoadValue m r l)) is) where
+  by : AtPoint z (world s L.ghost) c (s.callers c) (point.Answer (answer.LoadValue m r l)) → length (s.callers c).values < length (s.callers c).ops
+  by f = let rd = f.here.0 in let R = rd.3 in let n = ap length rd.8 ∙ length-run (λ j. s.memory.value (L.ghost.path j)) (suc R.dummy) rd.4 in
+      let counts = ap (λ (k : BatchCounts). k.deqs) R.counts in let most = count_by-le-length is_dequeue (s.callers c).ops in let total = rd.6 in omega arith

@@ -8,3 +8,4 @@ pub mod Begins
 pub mod Pairs
 pub mod Schedules
 pub mod Runs
+pub mod Commands

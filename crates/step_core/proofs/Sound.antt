@@ -11,17 +11,17 @@ use Rattle.bq_model.specs.History.{operations}
 use Rattle.bq_model.specs.Own.{mine}
 use Rattle.word_rows.specs.Sizes.{rows_of, anns_of}
 use Rattle.word_rows.proofs.SizeLemmas.{rows_within}
-use Rattle.core_model.specs.declared.turn.Turn.{Turn}
-use Rattle.core_model.specs.declared.turn.Turn.TheVariants.{Idle}
+use Rattle.core_model.specs.declared.point.Point.{Point}
+use Rattle.core_model.specs.declared.point.Point.TheVariants.{Idle}
 use Rattle.core_model.specs.Functions.{put}
-use Rattle.core_model.specs.Lane.{Lane, lane_of}
+use Rattle.core_model.specs.LaneSizes.{LaneSizes, lane_sizes}
 use Rattle.core_model.specs.Start.{newcomer, PassesAllowance}
 use Rattle.core_model.specs.State.{Caller, State, read}
-use Rattle.core_model.specs.Step.{target, grows, lander, next}
+use Rattle.core_model.specs.Step.{target, linearizes, group_owner, next}
 use Rattle.core_model.specs.Ranges.{IsWord, RowsFit, CountsFit}
 use Rattle.core_model.specs.Lawful.{Lawful}
 use Rattle.core_model.proofs.Puts.{put_all}
-use Rattle.core_model.proofs.Steps.{keeps_next}
+use Rattle.core_model.proofs.Steps.{preserves_next}
 use Rattle.core_model.proofs.InRange.{counts_fit, rows_fit, is_word, shape_fits}
 use Rattle.step_core.specs.declared.call.Call.{Call}
 use Rattle.step_core.specs.declared.lists.Lists.{Lists}
@@ -29,10 +29,10 @@ use Rattle.step_core.specs.declared.words.Words.{Words}
 use Rattle.step_core.specs.Words.{memory_of, sizes_of, sizes_for}
 use Rattle.step_core.specs.Calls.{call_of, IsReady, MayGo}
 use Rattle.step_core.specs.Due.{due}
-use Rattle.step_core.specs.Lists.{callers_of, state_of, copy_at, all_due, MayLand, IsSound}
+use Rattle.step_core.specs.Lists.{callers_of, state_of, copy_at, all_due, MayLinearize, IsSound}
 use Rattle.step_core.proofs.Totals.{total, total_le, total_list}
 use Rattle.step_core.proofs.Callers.{caller_is}
-use Rattle.step_core.proofs.Landings.{due_falls, due_groups, goes_on_same, one_more, lander_known, lander_waits, another, others_mine, stays, values_fit}
+use Rattle.step_core.proofs.Landings.{due_falls, due_groups, goes_on_same, one_more, owner_known, owner_waits, another, others_mine, leaves_history, values_fit}
 
 -- a call of the list
 pub call_at : (ks : List Call) (c : ℕ) → c < length ks → (k : Call) × (slice_get ks c ≡ Some k) × ((d : Call) → slice_index_or ks c d ≡ k)
@@ -46,81 +46,81 @@ module _ (a : Lists) (S : IsSound a) where
   due_each = total_list due newcomer (map call_of a.calls.items) a.shape.callers (let n = S.calls in let m = length-map a.calls.items call_of in omega arith)
 
   module _ (c : ℕ) where
-    pub finds_word : (t : Turn) → t ≡ (callers_of a.calls.items c).turn → IsWord (rows_of a.shape) (anns_of a.shape) (target t)
-    finds_word t at = subst (λ (u : Turn). IsWord (rows_of a.shape) (anns_of a.shape) (target u)) (sym at) (is_word (lane_of a.shape) (state_of a) S.lawful c)
+    pub finds_word : (t : Point) → t ≡ (callers_of a.calls.items c).point → IsWord (rows_of a.shape) (anns_of a.shape) (target t)
+    finds_word t at = subst (λ (u : Point). IsWord (rows_of a.shape) (anns_of a.shape) (target u)) (sym at) (is_word (lane_sizes a.shape) (state_of a) S.lawful c)
 
-    pub fits_count : (t : Turn) → t ≡ (callers_of a.calls.items c).turn → CountsFit t
-    fits_count t at = subst CountsFit (sym at) (counts_fit (lane_of a.shape) (state_of a) S.lawful (shape_fits a.shape) c)
+    pub fits_count : (t : Point) → t ≡ (callers_of a.calls.items c).point → CountsFit t
+    fits_count t at = subst CountsFit (sym at) (counts_fit (lane_sizes a.shape) (state_of a) S.lawful (shape_fits a.shape) c)
 
-    pub fits_rows : (t : Turn) → t ≡ (callers_of a.calls.items c).turn → RowsFit t
-    fits_rows t at = subst RowsFit (sym at) (rows_fit (lane_of a.shape) (state_of a) S.lawful (let most = rows_within a.shape in omega arith) c)
+    pub fits_rows : (t : Point) → t ≡ (callers_of a.calls.items c).point → RowsFit t
+    fits_rows t at = subst RowsFit (sym at) (rows_fit (lane_sizes a.shape) (state_of a) S.lawful (let most = rows_within a.shape in omega arith) c)
 
-    module _ (runs : (callers_of a.calls.items c).turn ≢ Idle) (t : Turn) (at : t ≡ (callers_of a.calls.items c).turn) where
+    module _ (runs : (callers_of a.calls.items c).point ≢ Idle) (t : Point) (at : t ≡ (callers_of a.calls.items c).point) where
       -- the lists as a later part of the step finds them
-      pub may_land : (b : Lists) → b.shape ≡ a.shape → b.calls ≡ a.calls → b.copies ≡ a.copies → b.history ≡ a.history
-          → grows t (read (memory_of a.words) (target t)) ≡ true → MayLand b (lander (lane_of a.shape) c t)
-      may_land b shape calls copies history g = let z = lane_of a.shape in let s = state_of a in let d = lander z c t in let below = lander_known z s S.lawful c runs t at g in let waits = lander_waits z s S.lawful c runs t at g in record {
+      pub may_linearize : (b : Lists) → b.shape ≡ a.shape → b.calls ≡ a.calls → b.copies ≡ a.copies → b.history ≡ a.history
+          → linearizes t (read (memory_of a.words) (target t)) ≡ true → MayLinearize b (group_owner (lane_sizes a.shape) c t)
+      may_linearize b shape calls copies history g = let z = lane_sizes a.shape in let s = state_of a in let d = group_owner z c t in let below = owner_known z s S.lawful c runs t at g in let waits = owner_waits z s S.lawful c runs t at g in record {
         inside = let n = S.calls in let e = ap (λ (v : Vec Call Global). vec_len v) calls in omega arith;
         with_copy = let n = S.copies in let e = ap (λ (v : Vec (List Op) Global). vec_len v) copies in omega arith;
         room = let more = one_more z s S.lawful c runs t at g in let sum = due_each in let room = S.reserved in let e = ap (λ (v : Vec Group Global). vec_len v) history in let m = ap (λ (v : Vec Group Global). vec_capacity v) history in omega arith;
         copied = ap (λ (v : Vec (List Op) Global). copy_at v.items d) copies ∙ (S.copied d waits.0 waits.1 ∙ ap (λ (v : Vec Call Global). (callers_of v.items d).ops) (sym calls));
       }
 
-  pub may_go : (ks : List Call) (c : ℕ) → ks ≡ a.calls.items → c < length ks → (callers_of a.calls.items c).turn ≢ Idle → IfSome (slice_get ks c) MayGo
+  pub may_go : (ks : List Call) (c : ℕ) → ks ≡ a.calls.items → c < length ks → (callers_of a.calls.items c).point ≢ Idle → IfSome (slice_get ks c) MayGo
   may_go ks c same below runs = let f = call_at ks c below in subst (λ (o : Option Call). IfSome o MayGo) (sym f.1)
       (let is = caller_is ks c f.0 below (sym (f.2 f.0)) in let was : callers_of a.calls.items c ≡ call_of f.0 = ap (λ (ys : List Call). callers_of ys c) (sym same) ∙ is in
       let R : IsReady a.shape.batch f.0 = subst (IsReady a.shape.batch) (f.2 f.0) (subst (All (IsReady a.shape.batch)) (sym same) S.ready c f.0 below) in
-      let within = (S.lawful.allowed c).within in let most = a.shape.some_allowance.1 in record {
+      let within = (S.lawful.callers c).allowed.within in let most = a.shape.some_allowance.1 in record {
         may_end = record {
           ready = subst (λ (n : ℕ). IsReady n f.0) (sym R.answers) R;
-          runs = λ idle. runs (ap (λ (k : Caller). k.turn) was ∙ idle);
+          runs = λ idle. runs (ap (λ (k : Caller). k.point) was ∙ idle);
           fits = let e = ap (λ (k : Caller). length (operations k.mine) + length k.ops) was in omega arith;
         };
         some = let n = R.answers in let least = a.shape.some_batch.0 in omega arith;
-        rows = fits_rows c f.0.turn (sym (ap (λ (k : Caller). k.turn) was));
+        rows = fits_rows c f.0.point (sym (ap (λ (k : Caller). k.point) was));
         reads = λ m r l is. let e = ap (λ (k : Caller). length k.values) was in let o = ap (λ (k : Caller). length k.ops) was in
-            let less = values_fit (lane_of a.shape) (state_of a) S.lawful c m r l (ap (λ (k : Caller). k.turn) was ∙ is) in omega arith;
+            let less = values_fit (lane_sizes a.shape) (state_of a) S.lawful c m r l (ap (λ (k : Caller). k.point) was ∙ is) in omega arith;
       })
 
-  module _ (c : ℕ) (runs : (callers_of a.calls.items c).turn ≢ Idle) (e : Lists) (t : Turn) (at : t ≡ (callers_of a.calls.items c).turn)
-      (step : state_of e ≡ next (lane_of a.shape) (state_of a) c) (shape : e.shape ≡ a.shape)
+  module _ (c : ℕ) (runs : (callers_of a.calls.items c).point ≢ Idle) (e : Lists) (t : Point) (at : t ≡ (callers_of a.calls.items c).point)
+      (step : state_of e ≡ next (lane_sizes a.shape) (state_of a) c) (shape : e.shape ≡ a.shape)
       (sizes : sizes_of e.words ≡ sizes_of a.words) (calls : vec_len e.calls ≡ vec_len a.calls) (copies : vec_len e.copies ≡ vec_len a.copies)
       (ready : All (IsReady a.shape.batch) e.calls.items) (capacity : vec_capacity e.history ≡ vec_capacity a.history)
-      (others : (d : ℕ) → d ≢ lander (lane_of a.shape) c t → copy_at e.copies.items d ≡ copy_at a.copies.items d)
-      (still : grows t (read (memory_of a.words) (target t)) ≡ false → (d : ℕ) → copy_at e.copies.items d ≡ copy_at a.copies.items d) where
-    copied_next : (d : ℕ) → ((next (lane_of a.shape) (state_of a) c).callers d).turn ≢ Idle
-        → length (mine (next (lane_of a.shape) (state_of a) c).history d) ≡ length ((next (lane_of a.shape) (state_of a) c).callers d).mine
-        → copy_at e.copies.items d ≡ ((next (lane_of a.shape) (state_of a) c).callers d).ops
-    copied_next d runs' none = by (grows t (read (memory_of a.words) (target t))) refl where
-      z : Lane
-      z = lane_of a.shape
+      (others : (d : ℕ) → d ≢ group_owner (lane_sizes a.shape) c t → copy_at e.copies.items d ≡ copy_at a.copies.items d)
+      (still : linearizes t (read (memory_of a.words) (target t)) ≡ false → (d : ℕ) → copy_at e.copies.items d ≡ copy_at a.copies.items d) where
+    copied_next : (d : ℕ) → ((next (lane_sizes a.shape) (state_of a) c).callers d).point ≢ Idle
+        → length (mine (next (lane_sizes a.shape) (state_of a) c).history d) ≡ length ((next (lane_sizes a.shape) (state_of a) c).callers d).mine
+        → copy_at e.copies.items d ≡ ((next (lane_sizes a.shape) (state_of a) c).callers d).ops
+    copied_next d runs' none = by (linearizes t (read (memory_of a.words) (target t))) refl where
+      z : LaneSizes
+      z = lane_sizes a.shape
 
-      by : (b : Bool) → grows t (read (memory_of a.words) (target t)) ≡ b → copy_at e.copies.items d ≡ ((next (lane_of a.shape) (state_of a) c).callers d).ops
-      by true g = let on = goes_on_same (lane_of a.shape) (state_of a) S.lawful c runs d runs' in let apart = another (lane_of a.shape) (state_of a) S.lawful c runs t at g d runs' none in
-          others d apart ∙ (S.copied d on.0 (ap length (sym (others_mine (lane_of a.shape) (state_of a) S.lawful c runs t at g d apart)) ∙ (none ∙ ap length on.2)) ∙ sym on.1)
-      by false g = let on = goes_on_same (lane_of a.shape) (state_of a) S.lawful c runs d runs' in
-          still g d ∙ (S.copied d on.0 (ap (λ (h : List Group). length (mine h d)) (sym (stays (lane_of a.shape) (state_of a) S.lawful c runs t at g)) ∙ (none ∙ ap length on.2)) ∙ sym on.1)
+      by : (b : Bool) → linearizes t (read (memory_of a.words) (target t)) ≡ b → copy_at e.copies.items d ≡ ((next (lane_sizes a.shape) (state_of a) c).callers d).ops
+      by true g = let on = goes_on_same (lane_sizes a.shape) (state_of a) S.lawful c runs d runs' in let apart = another (lane_sizes a.shape) (state_of a) S.lawful c runs t at g d runs' none in
+          others d apart ∙ (S.copied d on.0 (ap length (sym (others_mine (lane_sizes a.shape) (state_of a) S.lawful c runs t at g d apart)) ∙ (none ∙ ap length on.2)) ∙ sym on.1)
+      by false g = let on = goes_on_same (lane_sizes a.shape) (state_of a) S.lawful c runs d runs' in
+          still g d ∙ (S.copied d on.0 (ap (λ (h : List Group). length (mine h d)) (sym (leaves_history (lane_sizes a.shape) (state_of a) S.lawful c runs t at g)) ∙ (none ∙ ap length on.2)) ∙ sym on.1)
 
     pub stays_sound : IsSound e
-    stays_sound = let L = subst (Lawful (lane_of a.shape)) (sym step) (keeps_next (lane_of a.shape) (state_of a) S.lawful c) in record {
-      lawful = subst (λ (z : Shape). Lawful (lane_of z) (state_of e)) (sym shape) L;
+    stays_sound = let L = subst (Lawful (lane_sizes a.shape)) (sym step) (preserves_next (lane_sizes a.shape) (state_of a) S.lawful c) in record {
+      lawful = subst (λ (z : Shape). Lawful (lane_sizes z) (state_of e)) (sym shape) L;
       sizes = sizes ∙ (S.sizes ∙ ap (λ (z : Shape). sizes_for (rows_of z) (anns_of z)) (sym shape));
       calls = calls ∙ (S.calls ∙ ap (λ (z : Shape). z.callers) (sym shape));
       copies = copies ∙ (S.copies ∙ ap (λ (z : Shape). z.callers) (sym shape));
       ready = subst (λ (z : Shape). All (IsReady z.batch) e.calls.items) (sym shape) ready;
-      reserved = let falls = total_le a.shape.callers (λ d. due ((next (lane_of a.shape) (state_of a) c).callers d)) (λ d. due (callers_of a.calls.items d)) (λ d _. due_falls (lane_of a.shape) (state_of a) S.lawful c runs d) in
+      reserved = let falls = total_le a.shape.callers (λ d. due ((next (lane_sizes a.shape) (state_of a) c).callers d)) (λ d. due (callers_of a.calls.items d)) (λ d _. due_falls (lane_sizes a.shape) (state_of a) S.lawful c runs d) in
           let was = due_each in let now = total_list due newcomer (map call_of e.calls.items) a.shape.callers (let n = S.calls in let m = length-map e.calls.items call_of in let l = calls in omega arith) in
           let same = ap (λ (s : State). total a.shape.callers (λ d. due (s.callers d))) step in let room = S.reserved in let cap = capacity in omega arith;
-      copied = subst (λ (s : State). (d : ℕ) → (s.callers d).turn ≢ Idle → length (mine s.history d) ≡ length (s.callers d).mine → copy_at e.copies.items d ≡ (s.callers d).ops) (sym step) copied_next;
+      copied = subst (λ (s : State). (d : ℕ) → (s.callers d).point ≢ Idle → length (mine s.history d) ≡ length (s.callers d).mine → copy_at e.copies.items d ≡ (s.callers d).ops) (sym step) copied_next;
     }
 
 -- what a caller has made is within its allowance
 pub made_within : (a : Lists) (S : IsSound a) (c : ℕ) (k : Call) → c < length a.calls.items → k ≡ slice_index_or a.calls.items c k → k.operations ≤ a.shape.allowance
-made_within a S c k below is = let within = (S.lawful.allowed c).within in let made = (subst (IsReady a.shape.batch) (sym is) (S.ready c k below)).operations in
+made_within a S c k below is = let within = (S.lawful.callers c).allowed.within in let made = (subst (IsReady a.shape.batch) (sym is) (S.ready c k below)).operations in
     let e = ap (λ (y : Caller). length (operations y.mine)) (caller_is a.calls.items c k below is) in omega arith
 
 pub spent_is : (a : Lists) (S : IsSound a) (c : ℕ) (k : Call) (allowance more : ℕ) → c < length a.calls.items → k ≡ slice_index_or a.calls.items c k → allowance ≡ a.shape.allowance
-    → (ltb (allowance - k.operations) more ≡ true) ↔ PassesAllowance (lane_of a.shape) (callers_of a.calls.items c) more
+    → (ltb (allowance - k.operations) more ≡ true) ↔ PassesAllowance (lane_sizes a.shape) (callers_of a.calls.items c) more
 spent_is a S c k allowance more below is same = let made = (subst (IsReady a.shape.batch) (sym is) (S.ready c k below)).operations in let within = made_within a S c k below is in
     let e = ap (λ (y : Caller). length (operations y.mine)) (caller_is a.calls.items c k below is) in
     ((λ t. let less = ltb-true _ _ t in omega arith), λ passes. lt-ltb _ _ (omega arith))
@@ -129,14 +129,14 @@ spent_is a S c k allowance more below is same = let made = (subst (IsReady a.sha
 pub again_sound : (a b : Lists) → IsSound a → state_of b ≡ state_of a → b.shape ≡ a.shape → sizes_of b.words ≡ sizes_of a.words → vec_len b.calls ≡ vec_len a.calls
     → b.copies ≡ a.copies → All (IsReady a.shape.batch) b.calls.items → vec_capacity a.history ≤ vec_capacity b.history → all_due b.calls.items ≡ all_due a.calls.items → IsSound b
 again_sound a b S same shape sizes calls copies ready capacity waiting = record {
-  lawful = subst (λ (z : Shape). Lawful (lane_of z) (state_of b)) (sym shape) (subst (Lawful (lane_of a.shape)) (sym same) S.lawful);
+  lawful = subst (λ (z : Shape). Lawful (lane_sizes z) (state_of b)) (sym shape) (subst (Lawful (lane_sizes a.shape)) (sym same) S.lawful);
   sizes = sizes ∙ (S.sizes ∙ ap (λ (z : Shape). sizes_for (rows_of z) (anns_of z)) (sym shape));
   calls = calls ∙ (S.calls ∙ ap (λ (z : Shape). z.callers) (sym shape));
   copies = ap (λ (v : Vec (List Op) Global). vec_len v) copies ∙ (S.copies ∙ ap (λ (z : Shape). z.callers) (sym shape));
   ready = subst (λ (z : Shape). All (IsReady z.batch) b.calls.items) (sym shape) ready;
   reserved = let r = S.reserved in let c = capacity in let w = waiting in omega arith;
-  copied = subst (λ (v : List (List Op)). (d : ℕ) → (callers_of b.calls.items d).turn ≢ Idle → length (mine b.history.items d) ≡ length (callers_of b.calls.items d).mine → copy_at v d ≡ (callers_of b.calls.items d).ops) (ap (λ (v : Vec (List Op) Global). v.items) (sym copies))
-      (subst (λ (s : State). (d : ℕ) → (s.callers d).turn ≢ Idle → length (mine s.history d) ≡ length (s.callers d).mine → copy_at a.copies.items d ≡ (s.callers d).ops) (sym same) S.copied);
+  copied = subst (λ (v : List (List Op)). (d : ℕ) → (callers_of b.calls.items d).point ≢ Idle → length (mine b.history.items d) ≡ length (callers_of b.calls.items d).mine → copy_at v d ≡ (callers_of b.calls.items d).ops) (ap (λ (v : Vec (List Op) Global). v.items) (sym copies))
+      (subst (λ (s : State). (d : ℕ) → (s.callers d).point ≢ Idle → length (mine s.history d) ≡ length (s.callers d).mine → copy_at a.copies.items d ≡ (s.callers d).ops) (sym same) S.copied);
 }
 
 pub on_ok : {A E P Q : Type 0} → (r : Result A E) → (P → Q) → OnOk r P → OnOk r Q
@@ -145,24 +145,24 @@ on_ok (Err e) f p = tt
 
 -- Lists in which one caller alone goes on, which takes no step.
 module _ (a b : Lists) (S : IsSound a) (c : ℕ) (k' : Caller) (goes : callers_of b.calls.items ≡ put (callers_of a.calls.items) c k') where
-  pub put_sound : Lawful (lane_of a.shape) record { memory = (state_of a).memory; history = (state_of a).history; callers = put (callers_of a.calls.items) c k' }
+  pub put_sound : Lawful (lane_sizes a.shape) record { memory = (state_of a).memory; history = (state_of a).history; callers = put (callers_of a.calls.items) c k' }
       → b.shape ≡ a.shape → b.words ≡ a.words → b.history ≡ a.history → vec_len b.calls ≡ vec_len a.calls → vec_len b.copies ≡ vec_len a.copies → All (IsReady a.shape.batch) b.calls.items
       → all_due b.calls.items ≤ vec_capacity a.history
-      → (k'.turn ≢ Idle → copy_at b.copies.items c ≡ k'.ops) → ((d : ℕ) → d ≢ c → copy_at b.copies.items d ≡ copy_at a.copies.items d) → IsSound b
+      → (k'.point ≢ Idle → copy_at b.copies.items c ≡ k'.ops) → ((d : ℕ) → d ≢ c → copy_at b.copies.items d ≡ copy_at a.copies.items d) → IsSound b
   put_sound L shape words history calls copies ready reserved own others = record {
-    lawful = subst (λ (z : Shape). Lawful (lane_of z) (state_of b)) (sym shape)
-        (subst (Lawful (lane_of a.shape)) (λ i. record { memory = memory_of (sym words i); history = (sym history i).items; callers = sym goes i }) L);
+    lawful = subst (λ (z : Shape). Lawful (lane_sizes z) (state_of b)) (sym shape)
+        (subst (Lawful (lane_sizes a.shape)) (λ i. record { memory = memory_of (sym words i); history = (sym history i).items; callers = sym goes i }) L);
     sizes = ap (λ (w : Words). sizes_of w) words ∙ (S.sizes ∙ ap (λ (z : Shape). sizes_for (rows_of z) (anns_of z)) (sym shape));
     calls = calls ∙ (S.calls ∙ ap (λ (z : Shape). z.callers) (sym shape));
     copies = copies ∙ (S.copies ∙ ap (λ (z : Shape). z.callers) (sym shape));
     ready = subst (λ (z : Shape). All (IsReady z.batch) b.calls.items) (sym shape) ready;
     reserved = let m = ap (λ (v : Vec Group Global). vec_capacity v) history in let r = reserved in omega arith;
-    copied = subst (λ (v : Vec Group Global). (d : ℕ) → (callers_of b.calls.items d).turn ≢ Idle → length (mine v.items d) ≡ length (callers_of b.calls.items d).mine → copy_at b.copies.items d ≡ (callers_of b.calls.items d).ops) (sym history)
-        (subst (λ (f : ℕ → Caller). (d : ℕ) → (f d).turn ≢ Idle → length (mine a.history.items d) ≡ length (f d).mine → copy_at b.copies.items d ≡ (f d).ops) (sym goes)
-        (put_all (callers_of a.calls.items) c k' (λ d k. k.turn ≢ Idle → length (mine a.history.items d) ≡ length k.mine → copy_at b.copies.items d ≡ k.ops) (λ runs _. own runs) (λ d apart runs none. others d apart ∙ S.copied d runs none)));
+    copied = subst (λ (v : Vec Group Global). (d : ℕ) → (callers_of b.calls.items d).point ≢ Idle → length (mine v.items d) ≡ length (callers_of b.calls.items d).mine → copy_at b.copies.items d ≡ (callers_of b.calls.items d).ops) (sym history)
+        (subst (λ (f : ℕ → Caller). (d : ℕ) → (f d).point ≢ Idle → length (mine a.history.items d) ≡ length (f d).mine → copy_at b.copies.items d ≡ (f d).ops) (sym goes)
+        (put_all (callers_of a.calls.items) c k' (λ d k. k.point ≢ Idle → length (mine a.history.items d) ≡ length k.mine → copy_at b.copies.items d ≡ k.ops) (λ runs _. own runs) (λ d apart runs none. others d apart ∙ S.copied d runs none)));
   }
 
 -- no more is due than the history has, and one of each caller
-pub due_within : (z : Shape) (s : State) (ks : List Call) → Lawful (lane_of z) s → callers_of ks ≡ s.callers → length ks ≡ z.callers → all_due ks ≤ length s.history + z.callers
+pub due_within : (z : Shape) (s : State) (ks : List Call) → Lawful (lane_sizes z) s → callers_of ks ≡ s.callers → length ks ≡ z.callers → all_due ks ≤ length s.history + z.callers
 due_within z s ks L callers len = let each = total_list due newcomer (map call_of ks) z.callers (let m = length-map ks call_of in let n = len in omega arith) in
-    let same = ap (λ (f : ℕ → Caller). total z.callers (λ d. due (f d))) callers in let most = due_groups (lane_of z) s L in omega arith
+    let same = ap (λ (f : ℕ → Caller). total z.callers (λ d. due (f d))) callers in let most = due_groups (lane_sizes z) s L in omega arith

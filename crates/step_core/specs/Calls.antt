@@ -2,13 +2,15 @@
 use Rattle.std.specs.Prelude.{◌≡◌, ◌≢◌, ℕ, ◌+◌, ◌^◌, ◌<◌, ◌≤◌, length, vec_len, vec_capacity}
 use Rattle.bq_model.specs.History.{operations}
 use Rattle.excess_count.specs.Got.{enqueued}
-use Rattle.core_model.specs.declared.turn.Turn.TheVariants.{Idle, AnswerValue}
+use Rattle.core_model.specs.declared.point.Point.TheVariants.{Idle}
+use Rattle.core_model.specs.declared.point.Point.TheVariants as point
+use Rattle.core_model.specs.declared.point.AnswerPoint.TheVariants as answer
 use Rattle.core_model.specs.Ranges.{RowsFit}
 use Rattle.core_model.specs.State.{Caller}
 use Rattle.step_core.specs.declared.call.Call.{Call}
 
 abbrev pub call_of : Call → Caller
-call_of k = record { turn = k.turn; ops = k.ops; mine = k.mine.items; taken = k.taken; made = k.made; values = k.values.items; outcome = k.outcome; answers = k.answers.items; started_at = k.started_at; ended_at = k.ended_at }
+call_of k = record { point = k.point; ops = k.ops; mine = k.mine.items; taken = k.taken; made = k.made; values = k.values.items; outcome = k.outcome; answers = k.answers.items; started_at = k.started_at; ended_at = k.ended_at }
 
 -- In a lane with batches of so many operations: there is memory for the steps and the end of the command, its operations
 -- are counted, and the values of its enqueues are at hand.
@@ -16,20 +18,20 @@ pub record IsReady (batch : ℕ) (k : Call) : Type 0 where
   pub answers : k.answers.capacity ≡ batch
   pub fits : length k.ops ≤ batch
   pub values : length k.ops ≤ vec_capacity k.values
-  pub mine : k.turn ≢ Idle → vec_len k.mine < vec_capacity k.mine
+  pub mine : k.point ≢ Idle → vec_len k.mine < vec_capacity k.mine
   pub operations : k.operations ≡ length (operations k.mine.items)
   pub puts : k.puts.items ≡ enqueued k.ops
 
 -- the running command can end
 pub record MayEnd (k : Call) : Type 0 where
   pub ready : IsReady k.answers.capacity k
-  pub runs : k.turn ≢ Idle
+  pub runs : k.point ≢ Idle
   pub fits : length (operations k.mine.items) + length k.ops < 2 ^ 63
 
 -- it can make its next step
 pub record MayGo (k : Call) : Type 0 where
   pub may_end : MayEnd k
   pub some : 0 < k.answers.capacity
-  pub rows : RowsFit k.turn
+  pub rows : RowsFit k.point
   -- where it reads a value, there is a dequeue that gets it
-  pub reads : (m r l : ℕ) → k.turn ≡ AnswerValue m r l → length k.values.items < length k.ops
+  pub reads : (m r l : ℕ) → k.point ≡ point.Answer (answer.LoadValue m r l) → length k.values.items < length k.ops

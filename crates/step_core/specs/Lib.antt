@@ -6,3 +6,4 @@ pub mod Lists
 pub mod Machine
 pub mod Commands
 pub mod Schedule
+pub mod Started

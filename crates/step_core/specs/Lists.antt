@@ -3,8 +3,8 @@ use Rattle.std.specs.Prelude.{◌≡◌, ◌≢◌, ℕ, ◌<◌, ◌≤◌, Lis
 use Rattle.bq_model.specs.declared.op.Op.{Op}
 use Rattle.bq_model.specs.Own.{mine}
 use Rattle.word_rows.specs.Sizes.{rows_of, anns_of}
-use Rattle.core_model.specs.declared.turn.Turn.TheVariants.{Idle}
-use Rattle.core_model.specs.Lane.{lane_of}
+use Rattle.core_model.specs.declared.point.Point.TheVariants.{Idle}
+use Rattle.core_model.specs.LaneSizes.{lane_sizes}
 use Rattle.core_model.specs.State.{Caller, State}
 use Rattle.core_model.specs.Start.{newcomer}
 use Rattle.core_model.specs.Lawful.{Lawful}
@@ -30,7 +30,7 @@ abbrev pub all_due : List Call → ℕ
 all_due ks = sum_by due (map call_of ks)
 
 -- there is room and a copy for the group of this caller's running command
-pub record MayLand (m : Lists) (c : ℕ) : Type 0 where
+pub record MayLinearize (m : Lists) (c : ℕ) : Type 0 where
   pub inside : c < vec_len m.calls
   pub with_copy : c < vec_len m.copies
   pub room : vec_len m.history < vec_capacity m.history
@@ -38,7 +38,7 @@ pub record MayLand (m : Lists) (c : ℕ) : Type 0 where
 
 -- The lists show a lawful lane, and all memory that its steps need is there.
 pub record IsSound (m : Lists) : Type 0 where
-  pub lawful : Lawful (lane_of m.shape) (state_of m)
+  pub lawful : Lawful (lane_sizes m.shape) (state_of m)
   pub sizes : sizes_of m.words ≡ sizes_for (rows_of m.shape) (anns_of m.shape)
   pub calls : vec_len m.calls ≡ m.shape.callers
   pub copies : vec_len m.copies ≡ m.shape.callers
@@ -46,5 +46,5 @@ pub record IsSound (m : Lists) : Type 0 where
   -- there is room for the group of each running command, whoever adds it to the history
   pub reserved : all_due m.calls.items ≤ vec_capacity m.history
   -- and where it isn't there yet, a copy of its operations
-  pub copied : (c : ℕ) → (callers_of m.calls.items c).turn ≢ Idle → length (mine m.history.items c) ≡ length (callers_of m.calls.items c).mine
+  pub copied : (c : ℕ) → (callers_of m.calls.items c).point ≢ Idle → length (mine m.history.items c) ≡ length (callers_of m.calls.items c).mine
       → copy_at m.copies.items c ≡ (callers_of m.calls.items c).ops

@@ -6,7 +6,7 @@ use Rattle.word_rows.specs.declared.place.Place.{Place}
 use Rattle.word_rows.specs.declared.head_word.HeadWord.{HeadWord}
 use Rattle.word_rows.specs.declared.link_word.LinkWord.{LinkWord}
 use Rattle.word_rows.specs.declared.link_word.LinkWord.TheVariants.{Nil}
-use Rattle.core_model.specs.declared.turn.Notice.{Notice}
+use Rattle.core_model.specs.declared.point.Notice.{Notice}
 use Rattle.core_model.specs.Notices.{blank}
 use Rattle.core_model.specs.State.{Caller, State}
 use Rattle.core_model.specs.Start.{newcomer}
@@ -38,7 +38,7 @@ state_at v = record {
     link = λ r. slice_index_or v.links r Nil;
     value = λ r. slice_index_or v.values r 0;
     old_tail = λ a. slice_index_or v.old_tails a None;
-    said = λ a. slice_index_or v.notices a blank;
+    notice = λ a. slice_index_or v.notices a blank;
   };
   history = v.history;
   callers = caller_at v;

@@ -2,7 +2,7 @@
 use Rattle.std.specs.Prelude.{ℕ, suc, ◌+◌, nat_lt, if◌then◌else◌, List, [], ◌∷◌, length, Option, Some, None, Result, Ok, Err}
 use Rattle.bq_model.specs.History.{operations}
 use Rattle.bq_model.specs.declared.shape.Shape.{Shape}
-use Rattle.core_model.specs.Lane.{lane_of}
+use Rattle.core_model.specs.LaneSizes.{lane_sizes}
 use Rattle.core_model.specs.Start.{start}
 use Rattle.core_model.specs.State.{State}
 use Rattle.core_model.specs.Step.{next}
@@ -16,13 +16,13 @@ use Rattle.step_core.specs.Due.{is_idle}
 -- why the event cannot happen, if it cannot
 abbrev pub cause_of : Shape → State → Event → Option EventCause
 cause_of z s (event.Start c ops) =
-    if nat_lt c z.callers then (if is_command z.batch ops then (if is_idle (s.callers c).turn then None else Some BusyCaller) else Some BadBatch) else Some BadCaller
-cause_of z s (event.Step c) = if nat_lt c z.callers then (if is_idle (s.callers c).turn then Some IdleCaller else None) else Some BadCaller
+    if nat_lt c z.callers then (if is_command z.batch ops then (if is_idle (s.callers c).point then None else Some BusyCaller) else Some BadBatch) else Some BadCaller
+cause_of z s (event.Step c) = if nat_lt c z.callers then (if is_idle (s.callers c).point then Some IdleCaller else None) else Some BadCaller
 
 -- what it makes of the lane; a start that would pass the allowance changes nothing
 abbrev pub after_event : Shape → State → Event → State
-after_event z s (event.Start c ops) = if nat_lt z.allowance (length (operations (s.callers c).mine) + length ops) then s else start (lane_of z) s c ops
-after_event z s (event.Step c) = next (lane_of z) s c
+after_event z s (event.Start c ops) = if nat_lt z.allowance (length (operations (s.callers c).mine) + length ops) then s else start (lane_sizes z) s c ops
+after_event z s (event.Step c) = next (lane_sizes z) s c
 
 -- the event numbered n is refused, or the schedule goes on
 abbrev pub refused_or : Option EventCause → ℕ → Result State (ℕ × EventCause) → Result State (ℕ × EventCause)

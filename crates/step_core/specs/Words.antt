@@ -13,12 +13,12 @@ memory_of w = record {
   link = λ r. slice_index_or w.links.items r Nil;
   value = λ r. slice_index_or w.values.items r 0;
   old_tail = λ a. slice_index_or w.old_tails.items a None;
-  said = λ a. slice_index_or w.notices.items a blank;
+  notice = λ a. slice_index_or w.notices.items a blank;
 }
 
 -- the words of an empty lane
 abbrev pub opening_words : ℕ → Memory
-opening_words first = record { head = Node (place 0 first); tail = place 0 first; link = λ _. Nil; value = λ _. 0; old_tail = λ _. None; said = λ _. blank }
+opening_words first = record { head = Node (place 0 first); tail = place 0 first; link = λ _. Nil; value = λ _. 0; old_tail = λ _. None; notice = λ _. blank }
 
 -- how many words of each kind there are
 pub record Sizes : Type 0 where

@@ -2,25 +2,24 @@
 ghost use Rattle.std.specs.Prelude.{◌≡◌, ◌≢◌, ℕ, ◌+◌, ◌++◌, ◌^◌, ◌<◌, ◌≤◌, IfOk, OnOk, [], ◌∷◌, length, slice_index, vec_len, vec_capacity, Some, None};
 ghost use Rattle.bq_model.specs.History.{operations};
 ghost use Rattle.excess_count.specs.Got.{enqueued};
-ghost use Rattle.core_model.specs.declared.turn.Turn.TheVariants.{BatchValue};
 ghost use Rattle.core_model.specs.Batches.{paired};
-ghost use Rattle.core_model.specs.Step.{after, ended, reads_on, turned};
+ghost use Rattle.core_model.specs.Step.{after, ended, reads_on, stepped};
 ghost use Rattle.core_model.specs.Start.{newcomer};
 ghost use Rattle.step_core.specs.Calls.{call_of, IsReady, MayEnd, MayGo};
 
 use crate::pairing::pair;
 use bq_model::{Answer, Answers, Group, Ops, OutOfMemory};
-use core_model::{CallEnd, Course, Draft, Turn};
+use core_model::{AnswerPoint, BatchPoint, CallEnd, Course, Draft, Point};
 use std::alloc::Global;
 use std::mem;
 use word_rows::Content;
 
-/// A caller's place in its call, and what of its calls is kept.
+/// The point of a caller in its call, and what of its calls is kept.
 #[derive(Debug, Drop)]
 pub struct Call {
     pub alloc: Global,
     /// The step that comes next.
-    pub turn: Turn,
+    pub point: Point,
     /// The operations of the running command.
     pub ops: Ops,
     /// The values that they enqueue, in order.
@@ -50,7 +49,7 @@ impl Call {
     {
         Ok(Call {
             alloc,
-            turn: Turn::Idle,
+            point: Point::Idle,
             ops: Ops::new(alloc),
             puts: Vec::new(alloc),
             mine: Vec::new(alloc),
@@ -78,16 +77,24 @@ impl Call {
     }
 
     /// A command starts, when the history has `now` groups and the caller then has taken so many rows and announcements.
-    pub fn begin(&mut self, turn: Turn, ops: Ops, puts: Vec<u64>, taken: u32, made: u32, now: usize)
+    pub fn begin(
+        &mut self,
+        point: Point,
+        ops: Ops,
+        puts: Vec<u64>,
+        taken: u32,
+        made: u32,
+        now: usize,
+    )
         requires ready { IsReady self.old.answers.capacity self.old }
         requires room { vec_len self.old.mine < vec_capacity self.old.mine }
         requires values { length ops ≤ vec_capacity self.old.values }
         requires fits { length ops ≤ self.old.answers.capacity }
         requires puts { puts.items ≡ enqueued ops }
-        ensures begins { call_of self.new ≡ record (call_of self.old) { turn = turn; ops = ops; taken = taken; made = made; values = []; started_at = now; ended_at = None } }
+        ensures begins { call_of self.new ≡ record (call_of self.old) { point = point; ops = ops; taken = taken; made = made; values = []; started_at = now; ended_at = None } }
         ensures ready { IsReady self.old.answers.capacity self.new }
     {
-        self.turn = turn;
+        self.point = point;
         self.ops = ops;
         self.puts = puts;
         self.taken = taken;
@@ -123,7 +130,7 @@ impl Call {
             ops,
         });
         self.puts.clear();
-        self.turn = Turn::Idle;
+        self.point = Point::Idle;
         self.outcome = Some(CallEnd::Done);
         self.ended_at = Some(now);
     }
@@ -140,14 +147,14 @@ impl Call {
         self.end(caller, now);
     }
 
-    // A batch stores the value of its enqueue of this number.
-    fn fill(&mut self, draft: Draft, number: u32)
+    // A batch stores the value of its enqueue of this number into the row.
+    fn fill(&mut self, draft: Draft, number: u32, row: u32)
         requires { MayEnd self.old }
-        ensures fills { call_of self.new ≡ turned (call_of self.old) (BatchValue draft number (slice_index (enqueued self.old.ops) number)) }
+        ensures fills { call_of self.new ≡ stepped (call_of self.old) (Point.Batch draft (BatchPoint.StoreValue number row (slice_index (enqueued self.old.ops) number))) }
         ensures ready { IsReady self.old.answers.capacity self.new }
     {
         let value = self.puts.get(number as usize).copied().unwrap_or(0);
-        self.turn = Turn::BatchValue(draft, number, value);
+        self.point = Point::Batch(draft, BatchPoint::StoreValue { number, row, value });
     }
 
     // A batch on so many values begins to read those that it gets, behind the row. Where there are none, it ends.
@@ -161,7 +168,8 @@ impl Call {
             self.end(caller, now);
         } else {
             self.values.clear();
-            self.turn = Turn::AnswerLink(queued, row, left - 1);
+            let left = left - 1;
+            self.point = Point::Answer(AnswerPoint::LoadLink { queued, row, left });
         }
     }
 
@@ -184,24 +192,28 @@ impl Call {
             self.values.pop();
             self.end(caller, now);
         } else {
-            self.turn = Turn::AnswerLink(queued, row, left - 1);
+            let left = left - 1;
+            self.point = Point::Answer(AnswerPoint::LoadLink { queued, row, left });
         }
     }
 
     /// The caller goes on after the step that found this in its word, when the history has `now` groups.
     pub fn go(&mut self, caller: u32, found: Content, now: usize)
         requires { MayGo self.old }
-        ensures goes { call_of self.new ≡ after now caller (call_of self.old) self.old.turn found }
+        ensures goes { call_of self.new ≡ after now caller (call_of self.old) self.old.point found }
         ensures ready { IsReady self.old.answers.capacity self.new }
     {
-        match self.turn.course(found) {
-            Course::GoesOn(turn) => self.turn = turn,
+        match self.point.course(found) {
+            Course::GoesOn(point) => self.point = point,
             Course::Ends(answer) => self.end_with(caller, answer, now),
-            Course::Fills(draft, number) => self.fill(draft, number),
-            Course::Reads(queued, row, left) => self.read(caller, queued, row, left, now),
-            Course::ReadsMore(queued, row, left, value) => {
-                self.read_more(caller, queued, row, left, value, now)
-            }
+            Course::Fills { draft, number, row } => self.fill(draft, number, row),
+            Course::Reads { queued, row, left } => self.read(caller, queued, row, left, now),
+            Course::ReadsMore {
+                queued,
+                row,
+                left,
+                value,
+            } => self.read_more(caller, queued, row, left, value, now),
         }
     }
 }

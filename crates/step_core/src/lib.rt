@@ -16,7 +16,7 @@ mod starts;
 mod tests;
 mod words;
 
-pub use core_model::{Back, CallEnd, Draft, Help, Item, Notice, StepKind, Turn};
+pub use core_model::{Back, CallEnd, Draft, Help, Item, Notice, Point, StepKind};
 pub use laws::every_schedule_leaves_a_lawful_lane;
 pub use machine::Machine;
 pub use schedule::{Event, EventCause, ScheduleRefused, run_schedule};

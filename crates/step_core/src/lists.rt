@@ -1,20 +1,21 @@
 // The machine's state in lists. It shows a lawful lane between any two steps, and all memory that the running commands
 // will need is there.
 ghost use Rattle.std.specs.Prelude.{◌≡◌, ◌≢◌, ℕ, ◌+◌, ◌<◌, ◌≤◌, ◌++◌, [], ◌∷◌, IsTrue, IfOk, IfSome, length, slice_get, cond, All, vec_len, vec_capacity, Some};
-ghost use Rattle.core_model.specs.declared.turn.Turn.TheVariants.{Idle};
+ghost use Rattle.core_model.specs.declared.point.Point.TheVariants.{Idle};
 ghost use Rattle.core_model.specs.Functions.{put};
 ghost use Rattle.core_model.specs.Kind.{kind_of};
-ghost use Rattle.core_model.specs.Lane.{lane_of};
+ghost use Rattle.core_model.specs.LaneSizes.{lane_sizes};
 ghost use Rattle.core_model.specs.Start.{newcomer, opening};
-ghost use Rattle.core_model.specs.Step.{after, grows, grown, lander, next, own_group};
+ghost use Rattle.core_model.specs.State.{own_group};
+ghost use Rattle.core_model.specs.Step.{after, linearizes, history_with, group_owner, next};
 ghost use Rattle.step_core.specs.Calls.{call_of, IsReady, MayGo};
 ghost use Rattle.step_core.specs.Due.{due};
-ghost use Rattle.step_core.specs.Lists.{callers_of, state_of, copy_at, all_due, MayLand, IsSound};
+ghost use Rattle.step_core.specs.Lists.{callers_of, state_of, copy_at, all_due, MayLinearize, IsSound};
 
 use crate::call::Call;
 use crate::words::Words;
 use bq_model::{Group, Ops, OutOfMemory, Shape};
-use core_model::{StepKind, Turn};
+use core_model::{HelpPoint, Point, StepKind};
 use std::alloc::Global;
 use std::mem;
 use word_rows::{Content, anns, rows};
@@ -55,11 +56,11 @@ pub struct Lists {
 }
 
 // Whose group the step adds to the history: that of the announcement's owner where it links a chain, else its caller's.
-fn lander(shape: &Shape, caller: u32, turn: Turn) -> u32
-    ensures { result ≡ lander (lane_of shape.now) caller turn }
+fn group_owner(shape: &Shape, caller: u32, point: Point) -> u32
+    ensures { result ≡ group_owner (lane_sizes shape.now) caller point }
 {
-    match turn {
-        Turn::LinkChain(help, _) => help.ann / shape.callers(),
+    match point {
+        Point::Help(help, HelpPoint::LinkChain(_)) => help.ann / shape.callers(),
         _ => caller,
     }
 }
@@ -67,7 +68,7 @@ fn lander(shape: &Shape, caller: u32, turn: Turn) -> u32
 impl Lists {
     /// An empty lane, whose callers are idle.
     pub fn new(alloc: Global, shape: Shape) -> Result<Lists, OutOfMemory>
-        ensures opening { IfOk result (λ lists. state_of lists ≡ opening (lane_of shape)) }
+        ensures opening { IfOk result (λ lists. state_of lists ≡ opening (lane_sizes shape)) }
         ensures sound { IfOk result (λ lists. IsSound lists) }
         ensures shape { IfOk result (λ lists. lists.shape ≡ shape) }
     {
@@ -89,11 +90,11 @@ impl Lists {
         })
     }
 
-    fn turn(&self, caller: u32) -> Turn
+    fn point(&self, caller: u32) -> Point
         requires { caller < vec_len self.now.calls }
-        ensures { result ≡ (callers_of self.now.calls.items caller).turn }
+        ensures { result ≡ (callers_of self.now.calls.items caller).point }
     {
-        self.calls[caller as usize].turn
+        self.calls[caller as usize].point
     }
 
     // How many groups the caller made.
@@ -104,8 +105,8 @@ impl Lists {
         self.calls[caller as usize].mine.len() as u64
     }
 
-    // The history grows by this caller's group, whose operations are those of its copy.
-    fn land(&mut self, caller: u32)
+    // The history gets this caller's group, whose operations are those of its copy.
+    fn linearize(&mut self, caller: u32)
         requires calls { caller < vec_len self.old.calls }
         requires copies { caller < vec_len self.old.copies }
         requires room { vec_len self.old.history < vec_capacity self.old.history }
@@ -124,22 +125,22 @@ impl Lists {
         self.history.push_reserved(Group { caller, batch, ops });
     }
 
-    // The history grows by the group that the step of the caller adds, if it adds one.
-    fn grow(&mut self, caller: u32, turn: Turn, found: Content)
-        requires lands { IsTrue (grows turn found) → MayLand self.old (lander (lane_of self.old.shape) caller turn) }
-        ensures history { self.new.history.items ≡ self.old.history.items ++ grown (lane_of self.old.shape) (callers_of self.old.calls.items) caller turn found }
-        ensures len { vec_len self.new.history ≡ vec_len self.old.history + cond (grows turn found) 1 0 }
+    // The history gets the group that the step of the caller adds, if it adds one.
+    fn add_group(&mut self, caller: u32, point: Point, found: Content)
+        requires may_linearize { IsTrue (linearizes point found) → MayLinearize self.old (group_owner (lane_sizes self.old.shape) caller point) }
+        ensures history { self.new.history.items ≡ history_with (lane_sizes self.old.shape) (state_of self.old) caller point found }
+        ensures len { vec_len self.new.history ≡ vec_len self.old.history + cond (linearizes point found) 1 0 }
         ensures capacity { vec_capacity self.new.history ≡ vec_capacity self.old.history }
-        ensures others { (c : ℕ) → c ≢ lander (lane_of self.old.shape) caller turn → copy_at self.new.copies.items c ≡ copy_at self.old.copies.items c }
-        ensures no_growth { ¬ (IsTrue (grows turn found)) → self.new.copies ≡ self.old.copies }
+        ensures others { (c : ℕ) → c ≢ group_owner (lane_sizes self.old.shape) caller point → copy_at self.new.copies.items c ≡ copy_at self.old.copies.items c }
+        ensures none_added { ¬ (IsTrue (linearizes point found)) → self.new.copies ≡ self.old.copies }
         ensures copies_len { vec_len self.new.copies ≡ vec_len self.old.copies }
         ensures shape { self.new.shape ≡ self.old.shape }
         ensures words { self.new.words ≡ self.old.words }
         ensures calls_stay { self.new.calls ≡ self.old.calls }
     {
-        if turn.grows(found) {
-            let caller = lander(&self.shape, caller, turn);
-            self.land(caller);
+        if point.linearizes(found) {
+            let caller = group_owner(&self.shape, caller, point);
+            self.linearize(caller);
         }
     }
 
@@ -149,7 +150,7 @@ impl Lists {
         requires may_go { IfSome (slice_get self.old.calls.items caller) MayGo }
         requires ready { All (IsReady self.old.shape.batch) self.old.calls.items }
         ensures callers { callers_of self.new.calls.items ≡ put (callers_of self.old.calls.items) caller
-            (after (vec_len self.old.history) caller (callers_of self.old.calls.items caller) (callers_of self.old.calls.items caller).turn found) }
+            (after (vec_len self.old.history) caller (callers_of self.old.calls.items caller) (callers_of self.old.calls.items caller).point found) }
         ensures due { all_due self.new.calls.items + due (callers_of self.old.calls.items caller)
             ≡ all_due self.old.calls.items + due (callers_of self.new.calls.items caller) }
         ensures ready { All (IsReady self.old.shape.batch) self.new.calls.items }
@@ -165,18 +166,19 @@ impl Lists {
     pub fn step(&mut self, caller: u32) -> StepKind
         requires sound { IsSound self.old }
         requires known { caller < self.old.shape.callers }
-        requires runs { ((state_of self.old).callers caller).turn ≢ Idle }
-        ensures step { state_of self.new ≡ next (lane_of self.old.shape) (state_of self.old) caller }
-        ensures kind { kind_of ((state_of self.old).callers caller).turn ≡ Some result }
+        requires runs { ((state_of self.old).callers caller).point ≢ Idle }
+        ensures step { state_of self.new ≡ next (lane_sizes self.old.shape) (state_of self.old) caller }
+        ensures kind { kind_of ((state_of self.old).callers caller).point ≡ Some result }
         ensures sound { IsSound self.new }
         ensures shape { self.new.shape ≡ self.old.shape }
     {
-        let turn = self.turn(caller);
-        let word = turn.target();
+        let point = self.point(caller);
+        let act = point.act();
+        let word = act.location();
         let found = self.words.read(word);
-        self.words.write(word, turn.stored(found));
-        self.grow(caller, turn, found);
+        self.words.write(word, act.effect(found));
+        self.add_group(caller, point, found);
         self.go(caller, found);
-        turn.running_kind()
+        point.running_kind()
     }
 }

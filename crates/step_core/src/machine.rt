@@ -2,9 +2,9 @@
 ghost use Rattle.std.specs.Prelude.{◌≡◌, ◌≢◌, ◌↔◌, ◌<◌, ◌≤◌, IfOk, IsNone, Ok, Some, [], length};
 ghost use Rattle.bq_model.specs.Own.{mine};
 ghost use Rattle.bq_model.specs.Proper.{IsProper};
-ghost use Rattle.core_model.specs.declared.turn.Turn.TheVariants.{Idle};
+ghost use Rattle.core_model.specs.declared.point.Point.TheVariants.{Idle};
 ghost use Rattle.core_model.specs.Kept.{LastDone};
-ghost use Rattle.core_model.specs.Lane.{lane_of};
+ghost use Rattle.core_model.specs.LaneSizes.{lane_sizes};
 ghost use Rattle.core_model.specs.Kind.{kind_of};
 ghost use Rattle.core_model.specs.Step.{next};
 ghost use Rattle.core_model.specs.Start.{PassesAllowance, IsCommand, LacksRows, start, opening};
@@ -41,7 +41,7 @@ impl Model for Machine {
 impl Machine {
     /// An empty lane, whose callers are idle.
     pub fn new(alloc: Global, shape: &Shape) -> Result<Machine, OutOfMemory>
-        ensures opening { IfOk result (λ machine. state_at machine ≡ opening (lane_of shape.now)) }
+        ensures opening { IfOk result (λ machine. state_at machine ≡ opening (lane_sizes shape.now)) }
         ensures shape { IfOk result (λ machine. machine.shape ≡ shape.now) }
     {
         Ok(Machine {
@@ -67,13 +67,15 @@ impl Machine {
     /// all memory that the command's steps need. A command for which no row or no announcement is left ends with Full at once.
     pub fn start(&mut self, caller: u32, ops: &[Op]) -> Result<Started, OutOfMemory>
         requires known { caller < self.old.shape.callers }
-        requires idle { (caller_at self.old caller).turn ≡ Idle }
+        requires idle { (caller_at self.old caller).point ≡ Idle }
         requires command { IsCommand ops.now }
         requires most { length ops.now ≤ self.old.shape.batch }
-        ensures spent { (result ≡ Ok Started.Spent) ↔ PassesAllowance (lane_of self.old.shape) (caller_at self.old caller) (length ops.now) }
-        ensures running { (result ≡ Ok Started.Running) → state_at self.new ≡ start (lane_of self.old.shape) (state_at self.old) caller ops.now }
-        ensures full { (result ≡ Ok Started.Running) → ((caller_at self.new caller).turn ≡ Idle)
-            ↔ LacksRows (lane_of self.old.shape) (mine self.old.history caller) ops.now }
+        ensures spent { (result ≡ Ok Started.Spent) ↔ PassesAllowance (lane_sizes self.old.shape) (caller_at self.old caller) (length ops.now) }
+        ensures running { (result ≡ Ok Started.Running) → state_at self.new ≡ start (lane_sizes self.old.shape) (state_at self.old) caller ops.now }
+        ensures full { (result ≡ Ok Started.Running) → ((caller_at self.new caller).point ≡ Idle)
+            ↔ LacksRows (lane_sizes self.old.shape) (mine self.old.history caller) ops.now }
+        ensures full_is_told { (result ≡ Ok Started.Running) → LacksRows (lane_sizes self.old.shape) (mine self.old.history caller) ops.now
+            → (caller_at self.new caller).outcome ≡ Some CallEnd.Full }
         ensures refusal_changes_nothing { result ≢ Ok Started.Running → state_at self.new ≡ state_at self.old }
         ensures shape { self.new.shape ≡ self.old.shape }
     {
@@ -84,9 +86,9 @@ impl Machine {
     /// batch also pairs its answers, at a cost of its length.
     pub fn step(&mut self, caller: u32) -> StepKind
         requires known { caller < self.old.shape.callers }
-        requires runs { (caller_at self.old caller).turn ≢ Idle }
-        ensures step { state_at self.new ≡ next (lane_of self.old.shape) (state_at self.old) caller }
-        ensures kind { kind_of (caller_at self.old caller).turn ≡ Some result }
+        requires runs { (caller_at self.old caller).point ≢ Idle }
+        ensures step { state_at self.new ≡ next (lane_sizes self.old.shape) (state_at self.old) caller }
+        ensures kind { kind_of (caller_at self.old caller).point ≡ Some result }
         ensures shape { self.new.shape ≡ self.old.shape }
     {
         self.lists.step(caller)
@@ -95,10 +97,10 @@ impl Machine {
     /// The kind of the caller's next step.
     pub fn next_kind(&self, caller: u32) -> Option<StepKind>
         requires { caller < self.now.shape.callers }
-        ensures kind { result ≡ kind_of (caller_at self.now caller).turn }
-        ensures none_where_idle { IsNone result ↔ ((caller_at self.now caller).turn ≡ Idle) }
+        ensures kind { result ≡ kind_of (caller_at self.now caller).point }
+        ensures none_where_idle { IsNone result ↔ ((caller_at self.now caller).point ≡ Idle) }
     {
-        self.lists.calls[caller as usize].turn.kind()
+        self.lists.calls[caller as usize].point.kind()
     }
 
     /// How the caller's last command that ended did end.
@@ -139,7 +141,7 @@ impl Machine {
     pub fn history(&self) -> &[Group]
         ensures history { result.now ≡ self.now.history }
         ensures proper { IsProper self.now.shape.callers result.now }
-        ensures lawful { Lawful (lane_of self.now.shape) (state_at self.now) }
+        ensures lawful { Lawful (lane_sizes self.now.shape) (state_at self.now) }
     {
         self.lists.history.as_slice()
     }

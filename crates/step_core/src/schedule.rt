@@ -2,7 +2,7 @@
 ghost use Rattle.std.specs.Prelude.{◌≡◌, ◌<◌, ℕ, nat_lt, IfOk, OnOk, Ok, Err, None};
 ghost use Rattle.step_core.specs.declared.schedule.EventCause.{EventCause};
 ghost use Rattle.step_core.specs.declared.schedule.ScheduleRefused.TheVariants.{Memory};
-ghost use Rattle.core_model.specs.Lane.{lane_of};
+ghost use Rattle.core_model.specs.LaneSizes.{lane_sizes};
 ghost use Rattle.core_model.specs.Start.{opening};
 ghost use Rattle.step_core.specs.Machine.{caller_at, state_at};
 ghost use Rattle.step_core.specs.Commands.{is_command};
@@ -71,7 +71,7 @@ impl From<OutOfMemory> for ScheduleRefused {
 impl Machine {
     fn is_idle(&self, caller: u32) -> bool
         requires { caller < self.now.shape.callers }
-        ensures { result ≡ is_idle (caller_at self.now caller).turn }
+        ensures { result ≡ is_idle (caller_at self.now caller).point }
     {
         self.next_kind(caller).is_none()
     }
@@ -144,10 +144,10 @@ pub fn run_schedule(
     shape: &Shape,
     events: &[Event],
 ) -> Result<Machine, ScheduleRefused>
-    ensures ran { IfOk result (λ machine. schedule shape.now (opening (lane_of shape.now)) 0 events.now ≡ Ok (state_at machine)) }
+    ensures ran { IfOk result (λ machine. schedule shape.now (opening (lane_sizes shape.now)) 0 events.now ≡ Ok (state_at machine)) }
     ensures shape { IfOk result (λ machine. machine.shape ≡ shape.now) }
     ensures first_cause { (event : ℕ) (cause : EventCause) → result ≡ Err (ScheduleRefused.At event cause)
-        → schedule shape.now (opening (lane_of shape.now)) 0 events.now ≡ Err (event, cause) }
+        → schedule shape.now (opening (lane_sizes shape.now)) 0 events.now ≡ Err (event, cause) }
 {
     let mut machine = Machine::new(alloc, shape)?;
     for (event, happening) in events.iter().enumerate() {

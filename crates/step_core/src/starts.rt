@@ -5,17 +5,17 @@ ghost use Rattle.excess_count.specs.Counts.{counts_of};
 ghost use Rattle.excess_count.specs.Excess.{enqueue_count};
 ghost use Rattle.excess_count.specs.Got.{enqueued};
 ghost use Rattle.word_rows.specs.Sizes.{items_of};
-ghost use Rattle.core_model.specs.declared.turn.Turn.TheVariants.{Idle};
+ghost use Rattle.core_model.specs.declared.point.Point.TheVariants.{Idle};
 ghost use Rattle.core_model.specs.Batches.{notice_of};
 ghost use Rattle.core_model.specs.Functions.{put};
-ghost use Rattle.core_model.specs.Lane.{lane_of};
-ghost use Rattle.core_model.specs.Start.{PassesAllowance, IsCommand, anns_taken, has_rows, draft_of, first_turn, started, refused, start};
+ghost use Rattle.core_model.specs.LaneSizes.{lane_sizes};
+ghost use Rattle.core_model.specs.Start.{PassesAllowance, IsCommand, anns_taken, has_rows, draft_of, first_point, started, refused, start};
 ghost use Rattle.core_model.specs.State.{Caller};
 ghost use Rattle.step_core.specs.Lists.{callers_of, state_of, IsSound};
 
 use crate::lists::Lists;
 use bq_model::{Op, Ops, OutOfMemory, Shape};
-use core_model::{Draft, Item, Notice, Turn};
+use core_model::{BatchPoint, DequeuePoint, Draft, EnqueuePoint, Item, Notice, Point};
 use excess_count::{Counts, count};
 use std::alloc::Global;
 use word_rows::{BatchCounts, BatchNumber, Place, item_row, items, order_word, own_ann};
@@ -100,17 +100,17 @@ pub struct Stock {
 
 impl Stock {
     // The first step of a plain call.
-    fn plain(self, shape: &Shape, caller: u32, op: Op) -> Turn
+    fn plain(self, shape: &Shape, caller: u32, op: Op) -> Point
         requires known { caller < shape.now.callers }
         requires row { self.taken + enqueue_count (op ∷ []) ≤ items_of shape.now }
-        ensures { (k : Caller) → k.taken ≡ self.taken → result ≡ first_turn (lane_of shape.now) caller k (op ∷ []) }
+        ensures { (k : Caller) → k.taken ≡ self.taken → result ≡ first_point (lane_sizes shape.now) caller k (op ∷ []) }
     {
         match op {
-            Op::Enq(value) => Turn::StoreValue(Item {
-                row: item_row(shape, caller, self.taken),
-                value,
-            }),
-            Op::Deq => Turn::DeqHead,
+            Op::Enq(value) => {
+                let row = item_row(shape, caller, self.taken);
+                Point::Enqueue(Item { row, value }, EnqueuePoint::StoreValue)
+            }
+            Op::Deq => Point::Dequeue(DequeuePoint::LoadHead),
         }
     }
 
@@ -121,7 +121,7 @@ impl Stock {
         requires ann { self.made < shape.now.callers }
         requires some { 0 < counts.enqs }
         requires counts { counts ≡ counts_of ops.now }
-        ensures { (k : Caller) → k.taken ≡ self.taken → k.made ≡ self.made → length k.mine ≡ self.batch → result ≡ draft_of (lane_of shape.now) caller k ops.now }
+        ensures { (k : Caller) → k.taken ≡ self.taken → k.made ≡ self.made → length k.mine ≡ self.batch → result ≡ draft_of (lane_sizes shape.now) caller k ops.now }
     {
         let first = item_row(shape, caller, self.taken);
         Draft {
@@ -131,26 +131,32 @@ impl Stock {
     }
 
     // The first step of a command.
-    fn first_turn(
+    fn first_point(
         self,
         shape: &Shape,
         caller: u32,
         ops: &[Op],
         counts: Counts,
         puts: &[u64],
-    ) -> Turn
+    ) -> Point
         requires known { caller < shape.now.callers }
         requires command { IsCommand ops.now }
         requires rows { self.taken + counts.enqs ≤ items_of shape.now }
         requires anns { self.made + anns_taken ops.now ≤ shape.now.callers }
         requires counts { counts ≡ counts_of ops.now }
         requires puts { puts.now ≡ enqueued ops.now }
-        ensures { (k : Caller) → k.taken ≡ self.taken → k.made ≡ self.made → length k.mine ≡ self.batch → result ≡ first_turn (lane_of shape.now) caller k ops.now }
+        ensures { (k : Caller) → k.taken ≡ self.taken → k.made ≡ self.made → length k.mine ≡ self.batch → result ≡ first_point (lane_sizes shape.now) caller k ops.now }
     {
         if ops.len() == 1 {
             self.plain(shape, caller, ops[0])
         } else {
-            Turn::BatchValue(self.draft(shape, caller, ops, counts), 0, puts[0])
+            let draft = self.draft(shape, caller, ops, counts);
+            let first = BatchPoint::StoreValue {
+                number: 0,
+                row: draft.notice.first,
+                value: puts[0],
+            };
+            Point::Batch(draft, first)
         }
     }
 }
@@ -160,7 +166,7 @@ impl Lists {
     fn is_spent(&self, caller: u32, more: usize) -> bool
         requires sound { IsSound self.now }
         requires known { caller < self.now.shape.callers }
-        ensures { IsTrue result ↔ PassesAllowance (lane_of self.now.shape) (callers_of self.now.calls.items caller) more }
+        ensures { IsTrue result ↔ PassesAllowance (lane_sizes self.now.shape) (callers_of self.now.calls.items caller) more }
     {
         let made = self.calls[caller as usize].operations;
         self.shape.allowance() - made < more as u64
@@ -186,7 +192,7 @@ impl Lists {
         requires known { caller < self.now.shape.callers }
         requires few { enqs < 2 ^ 16 }
         ensures { (ops : List Op) → enqs ≡ enqueue_count ops → operations ≡ length ops
-            → result ≡ has_rows (lane_of self.now.shape) (callers_of self.now.calls.items caller) ops }
+            → result ≡ has_rows (lane_sizes self.now.shape) (callers_of self.now.calls.items caller) ops }
     {
         let stock = self.stock(caller);
         let rows = stock.taken + enqs <= items(&self.shape);
@@ -214,11 +220,11 @@ impl Lists {
     fn refuse(&mut self, caller: u32)
         requires sound { IsSound self.old }
         requires known { caller < self.old.shape.callers }
-        requires idle { (callers_of self.old.calls.items caller).turn ≡ Idle }
+        requires idle { (callers_of self.old.calls.items caller).point ≡ Idle }
         ensures memory { (state_of self.new).memory ≡ (state_of self.old).memory }
         ensures history { (state_of self.new).history ≡ (state_of self.old).history }
         ensures callers { callers_of self.new.calls.items ≡ put (callers_of self.old.calls.items) caller
-            (refused (lane_of self.old.shape) (vec_len self.old.history) caller (callers_of self.old.calls.items caller)) }
+            (refused (lane_sizes self.old.shape) (vec_len self.old.history) caller (callers_of self.old.calls.items caller)) }
         ensures sound { IsSound self.new }
         ensures shape { self.new.shape ≡ self.old.shape }
     {
@@ -231,11 +237,11 @@ impl Lists {
     fn begin(&mut self, caller: u32, counts: Counts, ops: Ops, copy: Ops, puts: Vec<u64>)
         requires sound { IsSound self.old }
         requires known { caller < self.old.shape.callers }
-        requires idle { (callers_of self.old.calls.items caller).turn ≡ Idle }
+        requires idle { (callers_of self.old.calls.items caller).point ≡ Idle }
         requires command { IsCommand ops }
         requires most { length ops ≤ self.old.shape.batch }
-        requires left { ¬ (PassesAllowance (lane_of self.old.shape) (callers_of self.old.calls.items caller) (length ops)) }
-        requires rows { has_rows (lane_of self.old.shape) (callers_of self.old.calls.items caller) ops ≡ true }
+        requires left { ¬ (PassesAllowance (lane_sizes self.old.shape) (callers_of self.old.calls.items caller) (length ops)) }
+        requires rows { has_rows (lane_sizes self.old.shape) (callers_of self.old.calls.items caller) ops ≡ true }
         requires history { vec_len self.old.history + vec_len self.old.calls ≤ vec_capacity self.old.history }
         requires room { IfSome (slice_get self.old.calls.items caller) (λ k. (vec_len k.mine < vec_capacity k.mine) × (length ops ≤ vec_capacity k.values)) }
         requires counts { counts ≡ counts_of ops }
@@ -244,29 +250,29 @@ impl Lists {
         ensures memory { (state_of self.new).memory ≡ (state_of self.old).memory }
         ensures history_stays { (state_of self.new).history ≡ (state_of self.old).history }
         ensures callers { callers_of self.new.calls.items ≡ put (callers_of self.old.calls.items) caller
-            (started (lane_of self.old.shape) (vec_len self.old.history) caller (callers_of self.old.calls.items caller) ops) }
+            (started (lane_sizes self.old.shape) (vec_len self.old.history) caller (callers_of self.old.calls.items caller) ops) }
         ensures sound { IsSound self.new }
         ensures shape { self.new.shape ≡ self.old.shape }
     {
         let now = self.history.len();
         let stock = self.stock(caller);
-        let turn = stock.first_turn(&self.shape, caller, ops.as_slice(), counts, puts.as_slice());
+        let point = stock.first_point(&self.shape, caller, ops.as_slice(), counts, puts.as_slice());
         let taken = stock.taken + counts.enqs;
         let made = stock.made + anns_taken(ops.len());
         self.copies[caller as usize] = copy;
         let call = &mut self.calls[caller as usize];
-        call.begin(turn, ops, puts, taken, made, now);
+        call.begin(point, ops, puts, taken, made, now);
     }
 
     /// Starts a command.
     pub fn start(&mut self, caller: u32, ops: &[Op]) -> Result<Started, OutOfMemory>
         requires sound { IsSound self.old }
         requires known { caller < self.old.shape.callers }
-        requires idle { (callers_of self.old.calls.items caller).turn ≡ Idle }
+        requires idle { (callers_of self.old.calls.items caller).point ≡ Idle }
         requires command { IsCommand ops.now }
         requires most { length ops.now ≤ self.old.shape.batch }
-        ensures spent { (result ≡ Ok Started.Spent) ↔ PassesAllowance (lane_of self.old.shape) (callers_of self.old.calls.items caller) (length ops.now) }
-        ensures running { (result ≡ Ok Started.Running) → state_of self.new ≡ start (lane_of self.old.shape) (state_of self.old) caller ops.now }
+        ensures spent { (result ≡ Ok Started.Spent) ↔ PassesAllowance (lane_sizes self.old.shape) (callers_of self.old.calls.items caller) (length ops.now) }
+        ensures running { (result ≡ Ok Started.Running) → state_of self.new ≡ start (lane_sizes self.old.shape) (state_of self.old) caller ops.now }
         ensures refusal { result ≢ Ok Started.Running → state_of self.new ≡ state_of self.old }
         ensures sound { IsSound self.new }
         ensures shape { self.new.shape ≡ self.old.shape }

@@ -1,5 +1,6 @@
 // The words of a lane that steps touch: HEAD, TAIL, the LINK and the VALUE of each row, and the words of each announcement.
 ghost use Rattle.std.specs.Prelude.{◌≡◌, ◌<◌, IfOk, vec_len};
+ghost use Rattle.word_rows.specs.Opening.{opening_marks};
 ghost use Rattle.core_model.specs.Ranges.{IsWord};
 ghost use Rattle.core_model.specs.State.{read, read_field, write, write_field};
 ghost use Rattle.step_core.specs.Words.{memory_of, opening_words, sizes_of, sizes_for};
@@ -7,7 +8,7 @@ ghost use Rattle.step_core.specs.Words.{memory_of, opening_words, sizes_of, size
 use bq_model::OutOfMemory;
 use core_model::{Notice, head_in, link_in, old_tail_in, tail_in, value_in};
 use std::alloc::Global;
-use word_rows::{AnnField, Content, HeadWord, LinkWord, Location, Place};
+use word_rows::{AnnField, Content, HeadWord, LinkWord, Location, Marks, Place};
 
 /// The words, as what they hold.
 #[derive(Debug, Drop)]
@@ -20,6 +21,18 @@ pub struct Words {
     pub old_tails: Vec<Option<Place>>,
     /// Of each announcement what its other words say.
     pub notices: Vec<Notice>,
+}
+
+// The marks of a row, which no step touches yet.
+fn opening_marks(row: u32) -> Marks
+    ensures { result ≡ opening_marks row }
+{
+    let is_free = row != 0;
+    Marks {
+        read: true,
+        passed: is_free,
+        free: is_free,
+    }
 }
 
 impl Words {
@@ -66,7 +79,9 @@ impl Words {
             Location::Link { row } => Content::OfLink(self.links[row as usize]),
             Location::Value { row } => Content::OfValue(self.values[row as usize]),
             Location::AnnWord { ann, field } => self.read_field(ann, field),
-            _ => Content::OfValue(0),
+            Location::Mark { row } => Content::OfMark(opening_marks(row)),
+            Location::NodeHazard { .. } => Content::OfNodeHazard(None),
+            Location::AnnHazard { .. } => Content::OfAnnHazard(None),
         }
     }
 
@@ -80,8 +95,8 @@ impl Words {
         match field {
             AnnField::OldTail => self.old_tails[ann as usize] = old_tail_in(content),
             _ => {
-                let said = self.notices[ann as usize];
-                self.notices[ann as usize] = said.with_field(field, content);
+                let notice = self.notices[ann as usize];
+                self.notices[ann as usize] = notice.with_field(field, content);
             }
         }
     }

@@ -1,4 +1,4 @@
-use Rattle.core_model.proofs.Ends.{ended_done, no_answers, idle_groups, one_place}
+use Rattle.core_model.proofs.Ends.{ended_done, no_answers, idle_groups, one_position}
 use Rattle.core_model.proofs.laws.ended_commands_stand_in_the_history.Goals as goal
 
 pub returns-clause-done : goal.returns-clause-done
@@ -11,4 +11,4 @@ pub returns-clause-own_groups : goal.returns-clause-own_groups
 returns-clause-own_groups c = λ z s who L idle. idle_groups z s L who idle
 
 pub returns-clause-once : goal.returns-clause-once
-returns-clause-once c = λ z s before behind g L is. one_place z s L before behind g is
+returns-clause-once c = λ z s before behind g L is. one_position z s L before behind g is

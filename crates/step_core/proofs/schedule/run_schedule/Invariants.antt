@@ -1,5 +1,5 @@
 use Rattle.std.proofs.Common.{◌≡◌, drop}
-use Rattle.core_model.specs.Lane.{lane_of}
+use Rattle.core_model.specs.LaneSizes.{lane_sizes}
 use Rattle.core_model.specs.Start.{opening}
 use Rattle.step_core.specs.Machine.{state_at}
 use Rattle.step_core.specs.Schedule.{schedule}
@@ -8,4 +8,4 @@ use Rattle.step_core.proofs.schedule.run_schedule.Given as goal
 -- the events from here on are still to happen, on the machine as it is
 abbrev pub invariant-loop-event : goal.invariant-loop-event
 invariant-loop-event l = (l.machine.shape ≡ l.shape)
-    × (schedule l.shape (opening (lane_of l.shape)) 0 l.events ≡ schedule l.shape (state_at l.machine) l.event (drop l.event l.events))
+    × (schedule l.shape (opening (lane_sizes l.shape)) 0 l.events ≡ schedule l.shape (state_at l.machine) l.event (drop l.event l.events))

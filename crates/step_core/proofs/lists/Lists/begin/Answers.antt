@@ -1,10 +1,10 @@
 use Rattle.std.proofs.Common.{rules, ◌≡◌, ◌+◌, ◌≤◌, ℕ, [], sym, ap, subst, refl, ◌∙◌, arith, None, vec_len, vec_capacity, length, slice_set, get_or-set_same, get_or-set_other}
 use Rattle.std.proofs.lemmas.List.Elements.{All-set}
 use Rattle.core_model.specs.Functions.{put}
-use Rattle.core_model.specs.Lane.{lane_of}
+use Rattle.core_model.specs.LaneSizes.{lane_sizes}
 use Rattle.core_model.specs.Lawful.{Lawful}
 use Rattle.core_model.specs.State.{State}
-use Rattle.core_model.specs.Start.{first_turn, started}
+use Rattle.core_model.specs.Start.{first_point, started}
 use Rattle.core_model.proofs.Steps.{started_lawful, no_operation}
 use Rattle.step_core.specs.Calls.{IsReady}
 use Rattle.step_core.specs.Lists.{callers_of, state_of, all_due}
@@ -14,19 +14,19 @@ use Rattle.step_core.proofs.Sound.{put_sound, due_within}
 use Rattle.step_core.proofs.lists.Lists.begin.Goals as goal
 
 pub returns-clause-callers : goal.returns-clause-callers
-returns-clause-callers c = let a = c.args.self.now in let ks = a.calls.items in let who = c.args.caller in let ops = c.args.ops in let z = lane_of a.shape in let k = callers_of ks who in
+returns-clause-callers c = let a = c.args.self.now in let ks = a.calls.items in let who = c.args.caller in let ops = c.args.ops in let z = lane_sizes a.shape in let k = callers_of ks who in
     let before = sym (caller_is ks who c.index_mut-call.result.now (search rules) c.index_mut-call.ensures.value) in let now = c.len-now.ensures in
-    let turn = c.first_turn-turn.ensures k (sym c.stock-stock.ensures.taken) (sym c.stock-stock.ensures.made) (sym c.stock-stock.ensures.batch) ∙ ap (first_turn z who k) c.as_slice.ensures in
+    let point = c.first_point-point.ensures k (sym c.stock-stock.ensures.taken) (sym c.stock-stock.ensures.made) (sym c.stock-stock.ensures.batch) ∙ ap (first_point z who k) c.as_slice.ensures in
     let taken = c.stock-stock.ensures.taken in let made = c.stock-stock.ensures.made in let anns = c.anns_taken.ensures.taken ops c.len.ensures in
     callers_set ks who c.begin.new.self (search rules)
-    ∙ ap (put (callers_of ks) who) (c.begin.ensures.begins ∙ λ i. record (before i) { turn = turn i; ops = ops; taken = taken i + (c.requires.counts i).enqs; made = made i + anns i; values = []; started_at = now i; ended_at = None })
+    ∙ ap (put (callers_of ks) who) (c.begin.ensures.begins ∙ λ i. record (before i) { point = point i; ops = ops; taken = taken i + (c.requires.counts i).enqs; made = made i + anns i; values = []; started_at = now i; ended_at = None })
 
 pub returns-clause-sound : goal.returns-clause-sound
 returns-clause-sound c = let a = c.args.self.now in let ks = a.calls.items in let who = c.args.caller in let ops = c.args.ops in let S = c.requires.sound in let n : length a.history.items ≡ vec_len a.history = search rules in
     let before = c.index_mut-call.result.now in let R : IsReady a.shape.batch before = subst (IsReady a.shape.batch) (sym c.index_mut-call.ensures.value) (S.ready who before (search rules)) in
-    let s : State = record { memory = memory_of a.words; history = a.history.items; callers = put (callers_of ks) who (started (lane_of a.shape) (vec_len a.history) who (callers_of ks who) ops) } in
-    let L : Lawful (lane_of a.shape) s = subst (λ (m : ℕ). Lawful (lane_of a.shape) record { memory = memory_of a.words; history = a.history.items; callers = put (callers_of ks) who (started (lane_of a.shape) m who (callers_of ks who) ops) }) n
-    (started_lawful (lane_of a.shape) (state_of a) S.lawful who c.requires.idle (no_operation (lane_of a.shape) (state_of a) S.lawful who c.requires.idle) c.requires.known ops c.requires.command c.requires.rows c.requires.left) in
+    let s : State = record { memory = memory_of a.words; history = a.history.items; callers = put (callers_of ks) who (started (lane_sizes a.shape) (vec_len a.history) who (callers_of ks who) ops) } in
+    let L : Lawful (lane_sizes a.shape) s = subst (λ (m : ℕ). Lawful (lane_sizes a.shape) record { memory = memory_of a.words; history = a.history.items; callers = put (callers_of ks) who (started (lane_sizes a.shape) m who (callers_of ks who) ops) }) n
+    (started_lawful (lane_sizes a.shape) (state_of a) S.lawful who c.requires.idle (no_operation (lane_sizes a.shape) (state_of a) S.lawful who c.requires.idle) c.requires.known ops c.requires.command c.requires.rows c.requires.left) in
     let same : length (slice_set ks who c.begin.new.self) ≡ vec_len a.calls = search rules in let callers = S.calls in
     put_sound a _ S who _ (returns-clause-callers c) L
     refl refl refl (search rules) (search rules)

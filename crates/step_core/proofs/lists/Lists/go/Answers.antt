@@ -10,7 +10,7 @@ use Rattle.step_core.proofs.lists.Lists.go.Goals as goal
 pub returns-clause-callers : goal.returns-clause-callers
 returns-clause-callers c = let ks = c.args.self.now.calls.items in callers_set ks c.args.caller c.go.new.self (search rules)
     ∙ ap (put (callers_of ks) c.args.caller) (c.go.ensures.goes ∙ (let now = c.len-now.ensures in let before = sym (caller_is ks c.args.caller c.index_mut-call.result.now (search rules) c.index_mut-call.ensures.value) in
-    λ i. after (now i) c.args.caller (before i) (before i).turn c.args.found))
+    λ i. after (now i) c.args.caller (before i) (before i).point c.args.found))
 
 pub returns-clause-due : goal.returns-clause-due
 returns-clause-due c = due_set c.args.self.now.calls.items c.args.caller c.go.new.self (search rules)

@@ -6,65 +6,61 @@ use Rattle.std.specs.declared.alloc.Global.{Global}
 use Rattle.word_rows.specs.Sizes.{rows_of, anns_of}
 use Rattle.core_model.specs.Ranges.{IsWord}
 use Rattle.core_model.specs.State.{read, write}
-use Rattle.core_model.specs.Step.{grows}
+use Rattle.core_model.specs.declared.act.Act.{Act}
+use Rattle.core_model.specs.Act.{location, effect}
+use Rattle.core_model.specs.Step.{linearizes}
 use Rattle.step_core.specs.declared.call.Call.{Call}
 use Rattle.step_core.specs.Calls.{IsReady}
 use Rattle.step_core.specs.Words.{memory_of, sizes_of, Sizes}
 use Rattle.step_core.specs.Lists.{copy_at}
 use Rattle.step_core.proofs.Callers.{step_is}
-use Rattle.step_core.proofs.Sound.{finds_word, fits_count, fits_rows, may_land, may_go, stays_sound}
+use Rattle.step_core.proofs.Sound.{finds_word, fits_count, may_linearize, may_go, stays_sound}
 use Rattle.step_core.proofs.lists.Lists.step.Goals as goal
 
-pub target-word-requires : goal.target-word-requires
-target-word-requires c = fits_rows c.args.self.now c.requires.sound c.args.caller c.turn-turn.result c.turn-turn.ensures
-
-pub stored-requires-clause-rows : goal.stored-requires-clause-rows
-stored-requires-clause-rows c = fits_rows c.args.self.now c.requires.sound c.args.caller c.turn-turn.result c.turn-turn.ensures
-
-pub stored-requires-clause-counts : goal.stored-requires-clause-counts
-stored-requires-clause-counts c = fits_count c.args.self.now c.requires.sound c.args.caller c.turn-turn.result c.turn-turn.ensures
+pub act-act-requires : goal.act-act-requires
+act-act-requires c = fits_count c.args.self.now c.requires.sound c.args.caller c.point-point.result c.point-point.ensures
 
 pub read-found-requires-clause-links : goal.read-found-requires-clause-links
 read-found-requires-clause-links c = let a = c.args.self.now in let sizes = c.requires.sound.sizes in
-    subst (λ (z : Sizes). IsWord z.links z.old_tails c.target-word.result) (sym sizes) (subst (IsWord (rows_of a.shape) (anns_of a.shape)) (sym c.target-word.ensures) (finds_word a c.requires.sound c.args.caller c.turn-turn.result c.turn-turn.ensures))
+    subst (λ (z : Sizes). IsWord z.links z.old_tails c.location-word.result) (sym sizes) (subst (IsWord (rows_of a.shape) (anns_of a.shape)) (sym (c.location-word.ensures ∙ ap location c.act-act.ensures)) (finds_word a c.requires.sound c.args.caller c.point-point.result c.point-point.ensures))
 
 pub read-found-requires-clause-values : goal.read-found-requires-clause-values
 read-found-requires-clause-values c = let a = c.args.self.now in let sizes = c.requires.sound.sizes in
-    subst (λ (z : Sizes). IsWord z.values z.notices c.target-word.result) (sym sizes) (subst (IsWord (rows_of a.shape) (anns_of a.shape)) (sym c.target-word.ensures) (finds_word a c.requires.sound c.args.caller c.turn-turn.result c.turn-turn.ensures))
+    subst (λ (z : Sizes). IsWord z.values z.notices c.location-word.result) (sym sizes) (subst (IsWord (rows_of a.shape) (anns_of a.shape)) (sym (c.location-word.ensures ∙ ap location c.act-act.ensures)) (finds_word a c.requires.sound c.args.caller c.point-point.result c.point-point.ensures))
 
 pub write-requires-clause-links : goal.write-requires-clause-links
 write-requires-clause-links c = let a = c.args.self.now in let sizes = c.requires.sound.sizes in
-    subst (λ (z : Sizes). IsWord z.links z.old_tails c.target-word.result) (sym sizes) (subst (IsWord (rows_of a.shape) (anns_of a.shape)) (sym c.target-word.ensures) (finds_word a c.requires.sound c.args.caller c.turn-turn.result c.turn-turn.ensures))
+    subst (λ (z : Sizes). IsWord z.links z.old_tails c.location-word.result) (sym sizes) (subst (IsWord (rows_of a.shape) (anns_of a.shape)) (sym (c.location-word.ensures ∙ ap location c.act-act.ensures)) (finds_word a c.requires.sound c.args.caller c.point-point.result c.point-point.ensures))
 
 pub write-requires-clause-values : goal.write-requires-clause-values
 write-requires-clause-values c = let a = c.args.self.now in let sizes = c.requires.sound.sizes in
-    subst (λ (z : Sizes). IsWord z.values z.notices c.target-word.result) (sym sizes) (subst (IsWord (rows_of a.shape) (anns_of a.shape)) (sym c.target-word.ensures) (finds_word a c.requires.sound c.args.caller c.turn-turn.result c.turn-turn.ensures))
+    subst (λ (z : Sizes). IsWord z.values z.notices c.location-word.result) (sym sizes) (subst (IsWord (rows_of a.shape) (anns_of a.shape)) (sym (c.location-word.ensures ∙ ap location c.act-act.ensures)) (finds_word a c.requires.sound c.args.caller c.point-point.result c.point-point.ensures))
 
-pub grow-requires : goal.grow-requires
-grow-requires c = record {
-  lands = λ g. let a = c.args.self.now in let t = c.turn-turn.result in let found = c.read-found.ensures ∙ ap (read (memory_of a.words)) c.target-word.ensures in
-      may_land a c.requires.sound c.args.caller c.requires.runs t c.turn-turn.ensures _ refl refl refl refl (ap (grows t) (sym found) ∙ g);
+pub add_group-requires : goal.add_group-requires
+add_group-requires c = record {
+  may_linearize = λ g. let a = c.args.self.now in let t = c.point-point.result in let found = c.read-found.ensures ∙ ap (read (memory_of a.words)) (c.location-word.ensures ∙ ap location c.act-act.ensures) in
+      may_linearize a c.requires.sound c.args.caller c.requires.runs t c.point-point.ensures _ refl refl refl refl (ap (linearizes t) (sym found) ∙ g);
 }
 
 pub go-requires-clause-may_go : goal.go-requires-clause-may_go
-go-requires-clause-may_go c = may_go c.args.self.now c.requires.sound c.grow.new.self.calls.items c.args.caller (search rules) (search rules) c.requires.runs
+go-requires-clause-may_go c = may_go c.args.self.now c.requires.sound c.add_group.new.self.calls.items c.args.caller (search rules) (search rules) c.requires.runs
 
 pub returns-clause-step : goal.returns-clause-step
-returns-clause-step c = step_is c.args.self.now c.grow.new.self c.go.new.self c.write.new.self c.args.caller (vec_len c.grow.new.self.history) c.turn-turn.result c.target-word.result c.read-found.result
-    c.turn-turn.ensures c.target-word.ensures c.read-found.ensures (c.write.ensures.memory ∙ ap (write (memory_of c.args.self.now.words) c.target-word.result) c.stored.ensures) c.grow.ensures.words c.grow.ensures.calls_stay c.grow.ensures.history
+returns-clause-step c = step_is c.args.self.now c.add_group.new.self c.go.new.self c.write.new.self c.args.caller (vec_len c.add_group.new.self.history) c.point-point.result c.location-word.result c.read-found.result
+    c.point-point.ensures (c.location-word.ensures ∙ ap location c.act-act.ensures) c.read-found.ensures (c.write.ensures.memory ∙ ap (write (memory_of c.args.self.now.words) c.location-word.result) (c.effect.ensures ∙ ap (λ (a : Act). effect a c.read-found.result) c.act-act.ensures)) c.add_group.ensures.words c.add_group.ensures.calls_stay c.add_group.ensures.history
     c.go.ensures.rest.1 c.go.ensures.rest.2 (search rules) c.go.ensures.callers
 
 pub returns-clause-sound : goal.returns-clause-sound
-returns-clause-sound c = let a = c.args.self.now in let d = c.grow.new.self in let e = c.go.new.self in let who = c.args.caller in
-    stays_sound a c.requires.sound who c.requires.runs e c.turn-turn.result c.turn-turn.ensures (returns-clause-step c)
-    (c.go.ensures.rest.0 ∙ c.grow.ensures.shape)
-    (ap sizes_of (c.go.ensures.rest.1 ∙ c.grow.ensures.words) ∙ c.write.ensures.sizes_stay)
-    (c.go.ensures.len ∙ ap (λ (v : Vec Call Global). vec_len v) c.grow.ensures.calls_stay)
-    (ap (λ (v : Vec (List Op) Global). vec_len v) c.go.ensures.rest.3 ∙ c.grow.ensures.copies_len)
+returns-clause-sound c = let a = c.args.self.now in let d = c.add_group.new.self in let e = c.go.new.self in let who = c.args.caller in
+    stays_sound a c.requires.sound who c.requires.runs e c.point-point.result c.point-point.ensures (returns-clause-step c)
+    (c.go.ensures.rest.0 ∙ c.add_group.ensures.shape)
+    (ap sizes_of (c.go.ensures.rest.1 ∙ c.add_group.ensures.words) ∙ c.write.ensures.sizes_stay)
+    (c.go.ensures.len ∙ ap (λ (v : Vec Call Global). vec_len v) c.add_group.ensures.calls_stay)
+    (ap (λ (v : Vec (List Op) Global). vec_len v) c.go.ensures.rest.3 ∙ c.add_group.ensures.copies_len)
     (subst (λ (n : ℕ). All (IsReady n) e.calls.items) (search rules) c.go.ensures.ready)
-    (ap (λ (v : Vec Group Global). vec_capacity v) c.go.ensures.rest.2 ∙ c.grow.ensures.capacity)
-    (λ other apart. ap (λ (v : Vec (List Op) Global). copy_at v.items other) c.go.ensures.rest.3 ∙ c.grow.ensures.others other apart)
-    (λ none other. let t = c.turn-turn.result in let found = c.read-found.ensures ∙ ap (read (memory_of a.words)) c.target-word.ensures in
-    ap (λ (v : Vec (List Op) Global). copy_at v.items other) (c.go.ensures.rest.3 ∙ c.grow.ensures.no_growth (λ g. differ (sym g ∙ (ap (grows t) found ∙ none))))) where
+    (ap (λ (v : Vec Group Global). vec_capacity v) c.go.ensures.rest.2 ∙ c.add_group.ensures.capacity)
+    (λ other apart. ap (λ (v : Vec (List Op) Global). copy_at v.items other) c.go.ensures.rest.3 ∙ c.add_group.ensures.others other apart)
+    (λ none other. let t = c.point-point.result in let found = c.read-found.ensures ∙ ap (read (memory_of a.words)) (c.location-word.ensures ∙ ap location c.act-act.ensures) in
+    ap (λ (v : Vec (List Op) Global). copy_at v.items other) (c.go.ensures.rest.3 ∙ c.add_group.ensures.none_added (λ g. differ (sym g ∙ (ap (linearizes t) found ∙ none))))) where
       differ : true ≡ false → ⊥
       differ e = cc e

@@ -3,7 +3,7 @@ use Rattle.word_rows.specs.declared.link_word.LinkWord.{LinkWord}
 use Rattle.word_rows.specs.declared.link_word.LinkWord.TheVariants.{Nil}
 use Rattle.word_rows.specs.declared.head_word.HeadWord.TheVariants.{Node}
 use Rattle.word_rows.specs.declared.place.Place.{Place}
-use Rattle.core_model.specs.declared.turn.Notice.{Notice}
+use Rattle.core_model.specs.declared.point.Notice.{Notice}
 use Rattle.core_model.specs.Notices.{place, blank}
 use Rattle.step_core.proofs.Fields.{all_same}
 use Rattle.step_core.proofs.words.Words.new.Goals as goal
@@ -16,5 +16,5 @@ returns-clause-opening c = let links = c.in_ok-vec.ensures.items_if_clones_equal
       link = λ r. (ap (λ (xs : List LinkWord). get_or xs r Nil) links ∙ all_same c.args.rows r Nil) i;
       value = λ r. (ap (λ (xs : List ℕ). get_or xs r 0) values ∙ all_same c.args.rows r 0) i;
       old_tail = λ a. (ap (λ (xs : List (Option Place)). get_or xs a None) old_tails ∙ all_same c.args.anns a None) i;
-      said = λ a. (ap (λ (xs : List Notice). get_or xs a blank) notices ∙ (ap (λ (n : Notice). get_or (replicate c.args.anns n) a blank) c.blank.ensures ∙ all_same c.args.anns a blank)) i;
+      notice = λ a. (ap (λ (xs : List Notice). get_or xs a blank) notices ∙ (ap (λ (n : Notice). get_or (replicate c.args.anns n) a blank) c.blank.ensures ∙ all_same c.args.anns a blank)) i;
     }

@@ -3,7 +3,7 @@ use Rattle.std.specs.Prelude.{◌≡◌, ℕ, ◌+◌, ◌*◌, ◌-◌, ◌/◌
 use Rattle.bq_model.specs.declared.shape.Shape.{Shape}
 use Rattle.word_rows.specs.Sizes.{rows_of, items_of, own_rows_of}
 
-pub record Lane : Type 0 where
+pub record LaneSizes : Type 0 where
   pub callers : ℕ
   -- where the counts of operations begin
   pub first : ℕ
@@ -17,15 +17,15 @@ pub record Lane : Type 0 where
   pub home : ℕ → ℕ
 
 -- the i-th item row of caller c
-abbrev pub item : Lane → ℕ → ℕ → ℕ
+abbrev pub item : LaneSizes → ℕ → ℕ → ℕ
 item z c i = z.first_row c + i
 
 -- the row is an item row of some caller
-abbrev pub IsItem : Lane → ℕ → Type 0
+abbrev pub IsItem : LaneSizes → ℕ → Type 0
 IsItem z r = (c : ℕ) × (i : ℕ) × (c < z.callers) × (i < z.items) × (item z c i ≡ r)
 
-abbrev pub lane_of : Shape → Lane
-lane_of s = record {
+abbrev pub lane_sizes : Shape → LaneSizes
+lane_sizes s = record {
   callers = s.callers;
   first = s.first_count;
   allowance = s.allowance;

@@ -1,4 +1,4 @@
--- An enqueue links its row behind the last one.
+-- The exchange that links a row at the end of the list: the enqueue takes effect.
 use Rattle.std.proofs.Common.{◌≡◌, ◌≢◌, inl, ℕ, suc, ◌+◌, ◌*◌, ◌<◌, ◌≤◌, Bool, true, false, cond, List, [], ◌∷◌, ◌++◌, length, sym, refl, ap, ◌∙◌, subst, arith, le_refl, length-append, Option, Some, None}
 use Rattle.std.proofs.lemmas.List.{append-nil}
 use mathlib.Core.Logic.{dite}
@@ -13,26 +13,28 @@ use Rattle.word_rows.specs.declared.link_word.LinkWord.{LinkWord}
 use Rattle.word_rows.specs.declared.link_word.LinkWord.TheVariants.{Nil, Single, Chain, Shut}
 use Rattle.word_rows.specs.declared.location.Location.TheVariants.{Link}
 use Rattle.word_rows.specs.declared.content.Content.TheVariants.{OfLink}
-use Rattle.core_model.specs.declared.turn.Item.{Item}
-use Rattle.core_model.specs.declared.turn.Turn.TheVariants.{EnqTail, LinkSingle, EnqLast}
+use Rattle.core_model.specs.declared.point.Item.{Item}
+use Rattle.core_model.specs.declared.point.Point.TheVariants as point
+use Rattle.core_model.specs.declared.point.EnqueuePoint.TheVariants as enq
 use Rattle.core_model.specs.Functions.{put, run}
-use Rattle.core_model.specs.Lane.{Lane, item, IsItem}
-use Rattle.core_model.specs.State.{Memory, Caller, State}
-use Rattle.core_model.specs.Step.{own_group, turned, step_with, step_at}
-use Rattle.core_model.specs.Ghost.{at, Ghost, World, places, joint, Unlinked, LinkAt, On}
+use Rattle.core_model.specs.LaneSizes.{LaneSizes, item, IsItem}
+use Rattle.core_model.specs.State.{Memory, Caller, State, own_group}
+use Rattle.core_model.specs.Fact.{linked, owns, holds_item, is_op, linearized_is}
+use Rattle.core_model.specs.Step.{stepped, step_with, step_at}
+use Rattle.core_model.specs.Facts.{Holds, AtPoint, Knows}
+use Rattle.core_model.specs.Ghost.{at, Ghost, World, positions, joint, Unlinked, LinkAt, On}
 use Rattle.core_model.specs.Kept.{Kept}
-use Rattle.core_model.specs.Facts.{linked, owns, holds_item, is_op, landed_is, Holds, Each, turn_facts, facts}
 use Rattle.core_model.specs.Lawful.{shown_queue, head_word, Listed, ItemRows, Headed, Tailed, Announced, IsTold, Waits, OwnGroups, Lawful}
 use Rattle.core_model.proofs.Puts.{put_here, put_else, run_last, run_same}
 use Rattle.core_model.proofs.Groups.{mine-push_other}
-use Rattle.core_model.proofs.Stays.{world, anns_same, Grows, owns_stays, kept_stays}
-use Rattle.core_model.proofs.Keeps.{kept_turned, known, quiet, keeps, changed, drafts_same, told_on, waits_on, waits_there, same_unmade, lands_proper, lands_operations, lands_mine}
+use Rattle.core_model.proofs.Stable.{world, anns_same, Rely, owns_stable, kept_stable}
+use Rattle.core_model.proofs.Preserves.{kept_stepped, known, stutters, preserves, changed, drafts_same, told_on, waits_on, waits_there, linearizes_proper, linearizes_operations, linearizes_mine}
 use Rattle.core_model.specs.Batches.{owner_of}
 use Rattle.core_model.proofs.Announces.{stages_moved, told_same, pending_same, links_put}
-use Rattle.core_model.proofs.Loads.{is_last}
+use Rattle.core_model.proofs.Lookups.{is_last}
 
-module _ (z : Lane) (s : State) (L : Lawful z s) (c : ℕ) where
-  module _ (x : Item) (p : Place) (off : Holds z (world s L.ghost) c (landed_is false)) (op : Holds z (world s L.ghost) c (is_op (s.callers c).ops (Enq x.value)))
+module _ (z : LaneSizes) (s : State) (L : Lawful z s) (c : ℕ) where
+  module _ (x : Item) (p : Place) (off : Holds z (world s L.ghost) c (linearized_is false)) (op : Holds z (world s L.ghost) c (is_op (s.callers c).ops (Enq x.value)))
       (o : Holds z (world s L.ghost) c (owns (s.callers c).taken x.row)) (full : Holds z (world s L.ghost) c (holds_item x))
       (f : Holds z (world s L.ghost) c (linked p)) (seen : p.count ≤ z.first + L.ghost.tail) (nil : s.memory.link p.row ≡ Nil) where
     abbrev G : Ghost
@@ -43,7 +45,7 @@ module _ (z : Lane) (s : State) (L : Lawful z s) (c : ℕ) where
     e = G.head + G.rest
 
     abbrev n : ℕ
-    n = places G
+    n = positions G
 
     abbrev path' : ℕ → ℕ
     path' = put G.path (suc (G.head + G.rest)) x.row
@@ -58,10 +60,10 @@ module _ (z : Lane) (s : State) (L : Lawful z s) (c : ℕ) where
     link' = put s.memory.link p.row (Single x.row)
 
     abbrev G' : Ghost
-    G' = record G { path = path'; chained = chained'; rest = suc G.rest; queued = suc G.queued; landed = put G.landed c true; spot = spot' }
+    G' = record G { path = path'; chained = chained'; rest = suc G.rest; queued = suc G.queued; linearized = put G.linearized c true; spot = spot' }
 
     abbrev k' : Caller
-    k' = turned (s.callers c) (EnqLast p x.row)
+    k' = stepped (s.callers c) (point.Enqueue x (enq.MoveTail p x.row))
 
     abbrev own : Group
     own = own_group c (s.callers c)
@@ -120,7 +122,7 @@ module _ (z : Lane) (s : State) (L : Lawful z s) (c : ℕ) where
         ∙ sym (ap (λ (b : Bool). joint b (path' (suc i))) (put_else G.chained e false i apart) ∙ ap (joint (G.chained i)) (old_path (suc i) below))
 
     -- a fact of each place
-    each_place : (P : ℕ → ℕ → Type 0) (from : ℕ) → ((i : ℕ) → from ≤ i → i < n → P i (G.path i)) → P n x.row → (i : ℕ) → from ≤ i → i < places G' → P i (path' i)
+    each_place : (P : ℕ → ℕ → Type 0) (from : ℕ) → ((i : ℕ) → from ≤ i → i < n → P i (G.path i)) → P n x.row → (i : ℕ) → from ≤ i → i < positions G' → P i (path' i)
     each_place P from old new i above below = dite (ℕ_discrete i n) (λ is. subst (λ (j : ℕ). P j (path' j)) (sym is) (subst (P n) (sym new_path) new))
         (λ apart. let below' : i < n = omega arith in subst (P i) (sym (old_path i below')) (old i above below'))
 
@@ -128,29 +130,29 @@ module _ (z : Lane) (s : State) (L : Lawful z s) (c : ℕ) where
     listed' = record {
       joined = λ i from below. dite (ℕ_discrete i e)
           (λ is. end_link i (path' i) is (old_path i (omega arith) ∙ (ap G.path is ∙ sym row_is)))
-          (λ apart. old_link i (path' i) (omega arith) apart (ap G.spot (old_path i (omega arith)) ∙ L.rows.spots i from (omega arith)) (ap s.memory.link (old_path i (omega arith)) ∙ L.rows.joined i from (omega arith)));
+          (λ apart. old_link i (path' i) (omega arith) apart (ap G.spot (old_path i (omega arith)) ∙ L.list.rows.spots i from (omega arith)) (ap s.memory.link (old_path i (omega arith)) ∙ L.list.rows.joined i from (omega arith)));
       last = let end : G.head + suc G.rest ≡ n = omega arith in ap (λ (i : ℕ). link' (path' i)) end ∙ (ap link' new_path ∙ (own_link x.row o.0.unlinked ∙ o.0.nil));
-      spots = λ i from below. each_place (λ i r. spot' r ≡ Some i) G.head (λ i from below. put_else G.spot x.row (Some n) (G.path i) (placed (G.path i) i (L.rows.spots i from below)) ∙ L.rows.spots i from below)
+      spots = λ i from below. each_place (λ i r. spot' r ≡ Some i) G.head (λ i from below. put_else G.spot x.row (Some n) (G.path i) (placed (G.path i) i (L.list.rows.spots i from below)) ∙ L.list.rows.spots i from below)
           (put_here G.spot x.row (Some n)) i from below;
-      inside = λ i below. each_place (λ i r. r < z.rows) 0 (λ i _ below. L.rows.inside i below) o.0.inside i (omega arith) below;
+      inside = λ i below. each_place (λ i r. r < z.rows) 0 (λ i _ below. L.list.rows.inside i below) o.0.inside i (omega arith) below;
     }
 
     items' : ItemRows z path' G.head (suc G.rest) G.shown
-    items' = λ i above below. each_place (λ i r. IsItem z r) (suc (G.head + G.shown)) (λ i above below. L.item_rows i (omega arith) below) o.0.is_item i (omega arith) (omega arith)
+    items' = λ i above below. each_place (λ i r. IsItem z r) (suc (G.head + G.shown)) (λ i above below. L.list.item_rows i (omega arith) below) o.0.is_item i (omega arith) (omega arith)
 
     headed' : Headed z.first s.memory.head path' G.head (suc G.rest) G.ann G.shown (suc G.queued)
     headed' = record {
-      named = L.head.named ∙ named G.ann;
-      none = L.head.none;
-      fits = let fits = L.head.fits in omega arith;
+      named = L.list.head.named ∙ named G.ann;
+      none = L.list.head.none;
+      fits = let fits = L.list.head.fits in omega arith;
     } where
       named : (a : Option ℕ) → head_word z.first G.path G.head a ≡ head_word z.first path' G.head a
       named None = ap (λ (r : ℕ). Rattle.word_rows.specs.declared.head_word.HeadWord.TheVariants.Node (record { row = r; count = z.first + G.head })) (sym (old_path G.head (omega arith)))
       named (Some a) = refl
 
     tailed' : Tailed z.first s.memory.tail path' chained' G.head (suc G.rest) G.tail
-    tailed' = let a = L.tail.within in let b = L.tail.after_head in let late = seen in let here = count_is in record {
-      named = L.tail.named ∙ ap (λ (r : ℕ). record { row = r; count = z.first + G.tail }) (sym (old_path G.tail (omega arith)));
+    tailed' = let a = L.list.tail.within in let b = L.list.tail.after_head in let late = seen in let here = count_is in record {
+      named = L.list.tail.named ∙ ap (λ (r : ℕ). record { row = r; count = z.first + G.tail }) (sym (old_path G.tail (omega arith)));
       after_head = b;
       within = omega arith;
       lags = λ _ _. omega arith;
@@ -158,9 +160,9 @@ module _ (z : Lane) (s : State) (L : Lawful z s) (c : ℕ) where
 
     queue' : last_queue (s.history ++ own ∷ []) ≡ shown_queue s.memory.value G'
     queue' = last_queue-push s.history own ∙ (ap (queue_from (last_queue s.history)) op.0 ∙ (ap (λ (q : List ℕ). q ++ x.value ∷ [])
-        (L.queue ∙ run_same (λ i. s.memory.value (G.path i)) (λ i. s.memory.value (path' i)) (suc (G.head + G.shown)) G.queued (λ j from below. let fits = L.head.fits in ap s.memory.value (sym (old_path j (omega arith)))))
+        (L.queue ∙ run_same (λ i. s.memory.value (G.path i)) (λ i. s.memory.value (path' i)) (suc (G.head + G.shown)) G.queued (λ j from below. let fits = L.list.head.fits in ap s.memory.value (sym (old_path j (omega arith)))))
         ∙ (ap (λ (v : ℕ). run (λ i. s.memory.value (path' i)) (suc (G.head + G.shown)) G.queued ++ v ∷ [])
-        (sym (ap (λ (i : ℕ). s.memory.value (path' i)) (let fits = L.head.fits in let new : suc (G.head + G.shown) + G.queued ≡ n = omega arith in new) ∙ (ap s.memory.value new_path ∙ full.1)))
+        (sym (ap (λ (i : ℕ). s.memory.value (path' i)) (let fits = L.list.head.fits in let new : suc (G.head + G.shown) + G.queued ≡ n = omega arith in new) ∙ (ap s.memory.value new_path ∙ full.1)))
         ∙ sym (run_last (λ i. s.memory.value (path' i)) (suc (G.head + G.shown)) G.queued))))
 
     linked_on : (i r : ℕ) → On (world s G) i r → LinkAt W i r
@@ -171,8 +173,8 @@ module _ (z : Lane) (s : State) (L : Lawful z s) (c : ℕ) where
           (λ apart. let inside = on.0 in old_link i r (omega arith) apart on.1 (on.3.1 (omega arith))),
     )
 
-    grows : Grows z (λ r. r ≡ x.row) (world s G) W
-    grows = record {
+    rely : Rely z (λ r. r ≡ x.row) (world s G) W
+    rely = record {
       longer = omega arith;
       heads = le_refl _;
       tails = le_refl _;
@@ -188,40 +190,36 @@ module _ (z : Lane) (s : State) (L : Lawful z s) (c : ℕ) where
     }
 
     now : (s.callers c).started_at ≤ length s.history
-    now = (L.kept_facts c).1.0
+    now = (L.callers c).knows.started
 
     kept' : Kept (s.history ++ own ∷ []) c k'
-    kept' = kept_turned (s.history ++ own ∷ []) c (s.callers c) (EnqLast p x.row) (s.callers c).values (kept_stays z (λ r. r ≡ x.row) (world s G) W grows c (s.callers c) (L.kept_facts c).1.1.0)
+    kept' = kept_stepped (s.history ++ own ∷ []) c (s.callers c) (point.Enqueue x (enq.MoveTail p x.row)) (s.callers c).values (kept_stable z (λ r. r ≡ x.row) (world s G) W rely c (s.callers c) (L.callers c).knows.last)
 
-    knows' : Each z W c (facts z c k')
-    knows' = (
-      (λ i from below known. owns_stays z (λ r. r ≡ x.row) (world s G) W grows c (item z c i) (o.1 i from) ((L.kept_facts c).0 i from below known)),
-      (
-        (let from = now in let total = length-append s.history (own ∷ []) in omega arith),
-        (
-          kept',
-          (
-            (put_here G.landed c true, off.1),
-            (
-              ((let here = count_is in omega arith), o.0.inside, λ i is. let here = count_is in let same : i ≡ e = omega arith in (omega arith, ap (λ (y : ℕ). path' (suc y)) same ∙ new_path)),
-              (
-                (λ i is. let here = count_is in let same : i ≡ e = omega arith in (omega arith, ap chained' same ∙ put_here G.chained e false)),
-                ((record { before = s.history; behind = []; place = sym (append-nil (s.history ++ own ∷ [])); right = sym (ap (answers_from (last_queue s.history)) op.0) }, now), tt),
-              ),
-            ),
-          ),
-        ),
-      ),
-    )
+    knows' : Knows z W c k'
+    knows' = record {
+      unused = λ i from below known. owns_stable z (λ r. r ≡ x.row) (world s G) W rely c (item z c i) (o.1 i from) ((L.callers c).knows.unused i from below known);
+      started = let from = now in let total = length-append s.history (own ∷ []) in omega arith;
+      last = kept';
+      at_point = record {
+        call = (
+          (put_here G.linearized c true, off.1),
+          ((record { before = s.history; behind = []; splits = sym (append-nil (s.history ++ own ∷ [])); right = sym (ap (answers_from (last_queue s.history)) op.0) }, now), tt),
+        );
+        here = (
+          ((let here = count_is in omega arith), o.0.inside, λ i is. let here = count_is in let same : i ≡ e = omega arith in (omega arith, ap (λ (y : ℕ). path' (suc y)) same ∙ new_path)),
+          ((λ i is. let here = count_is in let same : i ≡ e = omega arith in (omega arith, ap chained' same ∙ put_here G.chained e false)), tt),
+        );
+      };
+    }
 
-    groups' : OwnGroups c (s.history ++ own ∷ []) k' (put G.landed c true c)
-    groups' = lands_mine z s L c (Enq x.value) off.0 op ∙ ap (λ (b : Bool). (s.callers c).mine ++ cond b (own ∷ []) []) (sym (put_here G.landed c true))
+    groups' : OwnGroups c (s.history ++ own ∷ []) k' (put G.linearized c true c)
+    groups' = linearizes_mine z s L c (Enq x.value) off.0 op ∙ ap (λ (b : Bool). (s.callers c).mine ++ cond b (own ∷ []) []) (sym (put_here G.linearized c true))
 
     tail_is : G.tail ≡ e
-    tail_is = let within = L.tail.within in let late = seen in let here = count_is in omega arith
+    tail_is = let within = L.list.tail.within in let late = seen in let here = count_is in omega arith
 
     announced' : Announced z memory' G'
-    announced' = let at_end = tail_is in stages_moved z.first (z.callers * z.callers) G.stage G.ann s.memory.said s.memory.old_tail G.path path' G.chained chained' G.cause G.head G.head (G.head + G.rest) (G.head + suc G.rest) G.shown G.shown G.tail G.tail
+    announced' = let at_end = tail_is in stages_moved z.first (z.callers * z.callers) G.stage G.ann s.memory.notice s.memory.old_tail G.path path' G.chained chained' G.cause G.head G.head (G.head + G.rest) (G.head + suc G.rest) G.shown G.shown G.tail G.tail
         (omega arith) (omega arith) (λ i below. old_path i (omega arith)) (λ i below. put_else G.chained e false i (λ is. omega arith)) (le_refl _) (λ _ _. (refl, refl))
         (λ a i at f. (L.announced.standing a i at f).tails) (λ a i f none. (L.announced.unrecorded a i f none).1)
         (λ _ is. absurd (differ (sym is ∙ (ap chained' tail_is ∙ put_here G.chained e false)))) L.announced where
@@ -229,29 +227,35 @@ module _ (z : Lane) (s : State) (L : Lawful z s) (c : ℕ) where
           differ y = cc y
 
     told' : (a : ℕ) → IsTold z memory' G' (put s.callers c k') a
-    told' = told_on z s L c memory' G' (EnqLast p x.row) (inl off.1) (λ a at_head. told_same s.memory.value s.memory.value G.path path' (G.stage a) (s.memory.said a) (owner_of z a) (s.callers (owner_of z a))
+    told' = told_on z s L c memory' G' (point.Enqueue x (enq.MoveTail p x.row)) (inl off.1) (λ a at_head. told_same s.memory.value s.memory.value G.path path' (G.stage a) (s.memory.notice a) (owner_of z a) (s.callers (owner_of z a))
         (λ i j d from below. let inside = (L.announced.bound a i d).within in ap s.memory.value (old_path j (omega arith))) (L.told a at_head))
 
     pending' : (a : ℕ) → Waits z memory' G' (put s.callers c k') a
-    pending' = waits_on z s L c memory' G' (EnqLast p x.row) (λ a waits. let P = L.pending a waits in
-        pending_same z s.memory.link link' s.memory.value s.memory.value G.spot spot' G.chain (G.landed (owner_of z a)) (put G.landed c true (owner_of z a)) (s.memory.said a) (owner_of z a) (s.callers (owner_of z a))
+    pending' = waits_on z s L c memory' G' (point.Enqueue x (enq.MoveTail p x.row)) (λ a waits. let P = L.pending a waits in
+        pending_same z s.memory.link link' s.memory.value s.memory.value G.spot spot' G.chain (G.linearized (owner_of z a)) (put G.linearized c true (owner_of z a)) (s.memory.notice a) (owner_of z a) (s.callers (owner_of z a))
         (λ i below. own_link (G.chain i) (P.unlinked i below)) (λ _ _. refl)
         (λ i below. put_else G.spot x.row (Some n) (G.chain i) (λ is. off.1 a (waits_there z s L c a waits) (sym (P.homes i below) ∙ (ap z.home is ∙ o.0.at_home))) ∙ P.unlinked i below)
-        (put_else G.landed c true (owner_of z a) (off.1 a (waits_there z s L c a waits))) P)
+        (put_else G.linearized c true (owner_of z a) (off.1 a (waits_there z s L c a waits))) P)
 
-    pub appended : Lawful z (changed s c memory' (own_group c (s.callers c) ∷ []) k')
-    appended = keeps z s L c memory' (own ∷ []) G' k' (λ r. r ≡ x.row) (λ r is. ap z.home is ∙ o.0.at_home) grows
-        (λ d apart. (put_else G.landed c true d apart, mine-push_other s.history own d apart, drafts_same z (world s G) W refl refl refl d))
-        (lands_proper z s L c (Enq x.value) off.0 op) queue' listed' items' headed' tailed'
-        (let more = lands_operations z s L c (Enq x.value) off.0 op in let was = L.counts in omega arith)
-        (links_put z.rows s.memory.link p.row (Single x.row) o.0.inside L.links) announced' told' pending' (same_unmade z s L c k' refl)
-        groups' (L.allowed c) knows'
+    pub appended : Lawful z (changed s c memory' (s.history ++ own_group c (s.callers c) ∷ []) k')
+    appended = preserves z s L c memory' (s.history ++ own ∷ []) G' k' (λ r. r ≡ x.row) (λ r is. ap z.home is ∙ o.0.at_home) rely
+        (λ d apart. record { linearized = put_else G.linearized c true d apart; made = mine-push_other s.history own d apart; drafts = drafts_same z (world s G) W refl refl refl d; unmade = (L.callers d).unmade })
+        (linearizes_proper z s L c (Enq x.value) off.0 op) queue'
+        (record {
+          rows = listed';
+          item_rows = items';
+          head = headed';
+          tail = tailed';
+          counts = let more = linearizes_operations z s L c (Enq x.value) off.0 op in let was = L.list.counts in omega arith;
+          links = links_put z.rows s.memory.link p.row (Single x.row) o.0.inside L.list.links;
+        })
+        announced' told' pending' (record { unmade = (L.callers c).unmade; own_groups = groups'; allowed = (L.callers c).allowed; knows = knows' })
 
-  link_single : (x : Item) (p : Place) (l : LinkWord) → s.memory.link p.row ≡ l → Each z (world s L.ghost) c (turn_facts z c (s.callers c) (LinkSingle x p)) → Lawful z (step_with z s c (LinkSingle x p) (OfLink l))
-  link_single x p Nil is (off, (op, (o, (h, (on, (seen, rest)))))) = appended x p off op o h on seen is
-  link_single x p (Single r) is (off, (op, (o, (h, rest)))) = quiet z s L c (EnqTail x) (Link p.row) (OfLink (Single r)) (ap OfLink is) (off, (op, (o, (h, tt))))
-  link_single x p (Chain r) is (off, (op, (o, (h, rest)))) = quiet z s L c (EnqTail x) (Link p.row) (OfLink (Chain r)) (ap OfLink is) (off, (op, (o, (h, tt))))
-  link_single x p Shut is (off, (op, (o, (h, rest)))) = quiet z s L c (EnqTail x) (Link p.row) (OfLink Shut) (ap OfLink is) (off, (op, (o, (h, tt))))
+  link_single : (x : Item) (p : Place) (l : LinkWord) → s.memory.link p.row ≡ l → AtPoint z (world s L.ghost) c (s.callers c) (point.Enqueue x (enq.LinkSingle p)) → Lawful z (step_with z s c (point.Enqueue x (enq.LinkSingle p)) (OfLink l))
+  link_single x p Nil is f = appended x p f.call.0 f.call.1.0 f.call.1.1.0 f.call.1.1.1.0 f.here.0 f.here.1.0 is
+  link_single x p (Single r) is f = stutters z s L c (point.Enqueue x enq.LoadTail) (Link p.row) (OfLink (Single r)) (ap OfLink is) (record { call = f.call; here = tt })
+  link_single x p (Chain r) is f = stutters z s L c (point.Enqueue x enq.LoadTail) (Link p.row) (OfLink (Chain r)) (ap OfLink is) (record { call = f.call; here = tt })
+  link_single x p Shut is f = stutters z s L c (point.Enqueue x enq.LoadTail) (Link p.row) (OfLink Shut) (ap OfLink is) (record { call = f.call; here = tt })
 
-  pub keeps_link_single : (x : Item) (p : Place) → (s.callers c).turn ≡ LinkSingle x p → Lawful z (step_at z s c (LinkSingle x p))
-  keeps_link_single x p is = link_single x p (s.memory.link p.row) refl (known z s L c (LinkSingle x p) is)
+  pub preserves_link_single : (x : Item) (p : Place) → (s.callers c).point ≡ point.Enqueue x (enq.LinkSingle p) → Lawful z (step_at z s c (point.Enqueue x (enq.LinkSingle p)))
+  preserves_link_single x p is = link_single x p (s.memory.link p.row) refl (known z s L c (point.Enqueue x (enq.LinkSingle p)) is)

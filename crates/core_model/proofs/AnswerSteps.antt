@@ -1,0 +1,159 @@
+-- Each step of the owner of a finished batch keeps the lane lawful.
+use Rattle.std.proofs.Common.{◌≡◌, ℕ, zero, suc, ◌+◌, ◌-◌, Bool, true, false, List, [], ◌∷◌, ◌++◌, length, take, sym, refl, ap, ◌∙◌, subst, arith, append_assoc, length-append, Option, Some, None}
+use Rattle.bq_model.specs.declared.op.Op.{Op}
+use Rattle.bq_model.specs.declared.op.Op.TheVariants.{Enq, Deq}
+use Rattle.bq_model.specs.declared.op.Answer.{Answer}
+use Rattle.bq_model.specs.declared.op.Answer.TheVariants.{Done, Got, Empty}
+use Rattle.bq_model.specs.declared.group.Group.{Group}
+use Rattle.bq_model.specs.Replay.{answers_from}
+use Rattle.bq_model.specs.History.{last_queue}
+use Rattle.excess_count.specs.Got.{got_count, enqueued, values_from}
+use Rattle.excess_count.proofs.ReplayLaws.{got_count-done, got_count-got, got_count-empty, got_count-counted}
+use Rattle.word_rows.specs.declared.place.Place.{Place}
+use Rattle.word_rows.specs.declared.batch_words.BatchCounts.{BatchCounts}
+use Rattle.word_rows.specs.declared.link_word.LinkWord.{LinkWord}
+use Rattle.word_rows.specs.declared.link_word.LinkWord.TheVariants.{Nil, Single, Chain, Shut}
+use Rattle.word_rows.specs.declared.location.Location.TheVariants.{Link, Value, AnnWord}
+use Rattle.word_rows.specs.declared.content.Content.TheVariants.{OfLink, OfValue, OfOldTail}
+use Rattle.core_model.specs.declared.point.Help.{Help}
+use Rattle.core_model.specs.Functions.{run}
+use Rattle.core_model.specs.LaneSizes.{LaneSizes}
+use Rattle.core_model.specs.Batches.{tally, gets, paired}
+use Rattle.core_model.specs.State.{Memory, Caller, State, write, own_group}
+use Rattle.core_model.specs.Fact.{linearized_is, has_read, is_reading}
+use Rattle.core_model.specs.Help.{before_it}
+use Rattle.core_model.specs.Step.{ended, stepped_with, reads_on, step_with, step_at}
+use Rattle.core_model.specs.Facts.{Linearized, Holds, AtPoint}
+use Rattle.core_model.specs.Ghost.{Ghost, joint}
+use Rattle.core_model.specs.Lawful.{Lawful}
+use Rattle.core_model.proofs.Puts.{run_last}
+use Rattle.core_model.proofs.Stable.{world, some_none}
+use Rattle.core_model.proofs.Preserves.{known, stutters, point_changes_with, finishes, changed, write_read}
+use Rattle.core_model.specs.declared.point.AnswerPoint.{AnswerPoint}
+use Rattle.word_rows.specs.declared.location.AnnField.TheVariants as field
+use Rattle.core_model.specs.declared.point.Point.TheVariants as point
+use Rattle.core_model.specs.declared.point.AnswerPoint.TheVariants as answer
+
+-- the answers by counting are the replay's, where the values are those that the replay gets
+pub paired_right : (ops : List Op) (q vs : List ℕ) → vs ≡ take (got_count (answers_from q ops)) (values_from q ops) → paired ops (length q) vs ≡ answers_from q ops
+paired_right [] q vs e = refl
+paired_right (Enq v ∷ ops) q vs e = let long : suc (length q) ≡ length (q ++ v ∷ []) = (let l : suc (length q) ≡ length q + 1 = omega arith in l) ∙ sym (length-append q (v ∷ [])) in
+    ap (λ (xs : List Answer). Done ∷ xs) (ap (λ (n : ℕ). paired ops n vs) long
+    ∙ paired_right ops (q ++ v ∷ []) vs (e ∙ (λ i. take (got_count-done (answers_from (q ++ v ∷ []) ops) i) (sym (append_assoc q (v ∷ []) (enqueued ops)) i))))
+paired_right (Deq ∷ ops) [] vs e = ap (λ (xs : List Answer). Empty ∷ xs) (paired_right ops [] vs (e ∙ ap (λ (n : ℕ). take n (enqueued ops)) (got_count-empty (answers_from [] ops))))
+paired_right (Deq ∷ ops) (v ∷ q) vs e = let rest : List ℕ = take (got_count (answers_from q ops)) (values_from q ops) in
+    ap (paired (Deq ∷ ops) (suc (length q))) (e ∙ ap (λ (n : ℕ). take n (v ∷ values_from q ops)) (got_count-got v (answers_from q ops)))
+    ∙ ap (λ (xs : List Answer). Got v ∷ xs) (paired_right ops q rest refl)
+
+module _ (z : LaneSizes) (s : State) (L : Lawful z s) (c : ℕ) where
+  abbrev G : Ghost
+  G = L.ghost
+
+  abbrev me : Caller
+  me = s.callers c
+
+  abbrev own : Group
+  own = own_group c (s.callers c)
+
+  -- where all values are read, the answers are the replay's at the place of the group
+  read_right : (a i m : ℕ) (vs : List ℕ) (R : Linearized z (world s L.ghost) a i (s.callers c).started_at (own_group c (s.callers c))) (x : ℕ) → m ≡ i - R.dummy → x + 0 ≡ gets (s.memory.notice a).counts m
+      → vs ≡ run (λ j. s.memory.value (L.ghost.path j)) (suc R.dummy) x → paired (s.callers c).ops m vs ≡ answers_from (last_queue R.pre) (s.callers c).ops
+  read_right a i m vs R x m_is sum vals = ap (λ (n : ℕ). paired me.ops n vs) (m_is ∙ sym R.length_queue) ∙ paired_right me.ops (last_queue R.pre) vs all where
+    many : got_count (answers_from (last_queue R.pre) me.ops) ≡ gets (s.memory.notice a).counts (i - R.dummy)
+    many = got_count-counted (tally (s.memory.notice a).counts) me.ops (last_queue R.pre) (i - R.dummy) (ap tally R.counts) R.length_queue
+
+    all_read : x ≡ gets (s.memory.notice a).counts (i - R.dummy)
+    all_read = (let e : x ≡ x + 0 = omega arith in e) ∙ (sum ∙ ap (gets (s.memory.notice a).counts) m_is)
+
+    all : vs ≡ take (got_count (answers_from (last_queue R.pre) me.ops)) (values_from (last_queue R.pre) me.ops)
+    all = vals ∙ (ap (run (λ j. s.memory.value (G.path j)) (suc R.dummy)) all_read ∙ (sym R.values ∙ ap (λ (n : ℕ). take n (values_from (last_queue R.pre) me.ops)) (sym many)))
+
+  -- the owner reads on, or its command ends
+  on_read : (m r l : ℕ) (vs : List ℕ) (memory : Memory) → memory ≡ s.memory → Holds z (world s L.ghost) c (linearized_is true) → Holds z (world s L.ghost) c (has_read (s.callers c).started_at (own_group c (s.callers c)) m vs l r)
+      → Lawful z (changed s c memory s.history (reads_on (length s.history) c (s.callers c) m r l vs))
+  on_read m r zero vs memory is on rd =
+      subst (λ (y : Memory). Lawful z (changed s c y s.history (ended (length s.history) c me (paired me.ops m vs)))) (sym is)
+      (finishes z s L c (paired me.ops m vs) on.0 on.1 (record { before = rd.linearized.pre; behind = rd.linearized.post; splits = rd.linearized.stands; right = read_right rd.ann rd.position m vs rd.linearized rd.read rd.queued rd.left rd.values }) rd.linearized.since_start)
+  on_read m r (suc l) vs memory is on rd =
+      subst (λ (y : Memory). Lawful z (changed s c y s.history (stepped_with me (point.Answer (answer.LoadLink m r l)) vs))) (sym is)
+      (point_changes_with z s L c (point.Answer (answer.LoadLink m r l)) vs on.1 (record { call = (on, tt); here = (rd, tt) }))
+
+  -- OldTail tells how many values were queued before the batch, and none is read yet
+  module _ (h : Help) (q : Place) (at_q : s.memory.old_tail h.ann ≡ Some q) (f : AtPoint z (world s L.ghost) c (s.callers c) (point.Answer (answer.LoadOldTail h))) where
+    abbrev i : ℕ
+    i = f.here.1.0.0
+
+    linearized : (L.ghost.linearized c ≡ true) × Linearized z (world s L.ghost) h.ann f.here.1.0.0 (s.callers c).started_at (own_group c (s.callers c))
+    linearized = f.here.1.1.0.2 f.here.1.0.0 f.here.1.0.1
+
+    m_is : before_it h q ≡ f.here.1.0.0 - linearized.1.dummy
+    m_is = let R = linearized.1 in let qc = ap (λ (p : Place). p.count) (L.announced.recorded h.ann f.here.1.0.0 q f.here.1.0.1 at_q) in let hc = ap (λ (p : Place). p.count) (sym (f.here.0.old_head (omega arith)) ∙ R.old_head) in omega arith
+
+    none_read : Holds z (world s L.ghost) c (has_read (s.callers c).started_at (own_group c (s.callers c)) (before_it h q) [] (gets h.counts (before_it h q)) h.old_head.row)
+    none_read = let R = linearized.1 in record {
+      ann = h.ann;
+      position = f.here.1.0.0;
+      is_decided = f.here.1.0.1;
+      linearized = R;
+      read = 0;
+      queued = m_is;
+      left = (let e : 0 + gets h.counts (before_it h q) ≡ gets h.counts (before_it h q) = omega arith in e) ∙ ap (λ (k : BatchCounts). gets k (before_it h q)) (sym (f.here.0.counts (omega arith)));
+      last_row = ap G.path (let e : R.dummy + 0 ≡ R.dummy = omega arith in e) ∙ ap (λ (p : Place). p.row) (sym R.old_head ∙ f.here.0.old_head (omega arith));
+      values = refl;
+    }
+
+  tail_loaded : (h : Help) (x : Option Place) → s.memory.old_tail h.ann ≡ x → AtPoint z (world s L.ghost) c (s.callers c) (point.Answer (answer.LoadOldTail h)) → Lawful z (step_with z s c (point.Answer (answer.LoadOldTail h)) (OfOldTail x))
+  tail_loaded h None at_none f = absurd (some_none (sym f.here.1.0.2.1 ∙ at_none))
+  tail_loaded h (Some q) at_q f = on_read (before_it h q) h.old_head.row (gets h.counts (before_it h q)) [] (write s.memory (AnnWord h.ann field.OldTail) (OfOldTail (Some q)))
+      (ap (write s.memory (AnnWord h.ann field.OldTail)) (ap OfOldTail (sym at_q)) ∙ write_read s.memory (AnnWord h.ann field.OldTail)) f.call.0 (none_read h q at_q f)
+
+  preserves_answer_tail : (h : Help) → (s.callers c).point ≡ point.Answer (answer.LoadOldTail h) → Lawful z (step_at z s c (point.Answer (answer.LoadOldTail h)))
+  preserves_answer_tail h is = tail_loaded h (s.memory.old_tail h.ann) refl (known z s L c (point.Answer (answer.LoadOldTail h)) is)
+
+  -- the link of a row that was read names the next one
+  next_row : (m r l n : ℕ) → ((b : Bool) (x : ℕ) → joint b x ≡ s.memory.link r → x ≡ n) → Holds z (world s L.ghost) c (has_read (s.callers c).started_at (own_group c (s.callers c)) m (s.callers c).values (suc l) r)
+      → Holds z (world s L.ghost) c (is_reading (s.callers c).started_at (own_group c (s.callers c)) m (s.callers c).values l n)
+  next_row m r l n names rd = let R = rd.linearized in let all : gets (s.memory.notice rd.ann).counts m ≡ gets (s.memory.notice rd.ann).counts (rd.position - R.dummy) = ap (gets (s.memory.notice rd.ann).counts) rd.queued in let e = rd.left in
+      let here = R.rows rd.read (omega arith) in let next = R.rows (suc rd.read) (omega arith) in let inside = next.0 in
+      (rd.ann, rd.position, rd.is_decided, R, rd.read, rd.queued, rd.left, names (G.chained (R.dummy + rd.read)) (G.path (suc (R.dummy + rd.read))) (sym (here.3.1 (omega arith)) ∙ ap s.memory.link rd.last_row), rd.values)
+
+  link_read : (m r l : ℕ) (x : LinkWord) → s.memory.link r ≡ x → AtPoint z (world s L.ghost) c (s.callers c) (point.Answer (answer.LoadLink m r l)) → Lawful z (step_with z s c (point.Answer (answer.LoadLink m r l)) (OfLink x))
+  link_read m r l Nil is f = stutters z s L c (point.Answer (answer.LoadLink m r l)) (Link r) (OfLink Nil) (ap OfLink is) f
+  link_read m r l Shut is f = stutters z s L c (point.Answer (answer.LoadLink m r l)) (Link r) (OfLink Shut) (ap OfLink is) f
+  link_read m r l (Single n) is f = stutters z s L c (point.Answer (answer.LoadValue m n l)) (Link r) (OfLink (Single n)) (ap OfLink is) (record { call = f.call; here = (next_row m r l n (λ b x e. names b x (e ∙ is)) f.here.0, tt) }) where
+    names : (b : Bool) (x : ℕ) → joint b x ≡ Single n → x ≡ n
+    names true x e = absurd (cc e)
+    names false x e = cc e
+  link_read m r l (Chain n) is f = stutters z s L c (point.Answer (answer.LoadValue m n l)) (Link r) (OfLink (Chain n)) (ap OfLink is) (record { call = f.call; here = (next_row m r l n (λ b x e. names b x (e ∙ is)) f.here.0, tt) }) where
+    names : (b : Bool) (x : ℕ) → joint b x ≡ Chain n → x ≡ n
+    names true x e = cc e
+    names false x e = absurd (cc e)
+
+  preserves_answer_link : (m r l : ℕ) → (s.callers c).point ≡ point.Answer (answer.LoadLink m r l) → Lawful z (step_at z s c (point.Answer (answer.LoadLink m r l)))
+  preserves_answer_link m r l is = link_read m r l (s.memory.link r) refl (known z s L c (point.Answer (answer.LoadLink m r l)) is)
+
+  -- one value more
+  value_read : (m r l : ℕ) → Holds z (world s L.ghost) c (is_reading (s.callers c).started_at (own_group c (s.callers c)) m (s.callers c).values l r)
+      → Holds z (world s L.ghost) c (has_read (s.callers c).started_at (own_group c (s.callers c)) m ((s.callers c).values ++ s.memory.value r ∷ []) l r)
+  value_read m r l (a, i, d, R, x, m_is, sum, row, vals) = record {
+    ann = a;
+    position = i;
+    is_decided = d;
+    linearized = R;
+    read = suc x;
+    queued = m_is;
+    left = (let e : suc x + l ≡ x + suc l = omega arith in e) ∙ sum;
+    last_row = ap G.path (let e : R.dummy + suc x ≡ suc (R.dummy + x) = omega arith in e) ∙ row;
+    values = (λ k. vals k ++ s.memory.value (sym row k) ∷ []) ∙ (ap (λ (y : ℕ). run (λ j. s.memory.value (G.path j)) (suc R.dummy) x ++ s.memory.value (G.path y) ∷ []) (let e : suc (R.dummy + x) ≡ suc R.dummy + x = omega arith in e)
+        ∙ sym (run_last (λ j. s.memory.value (G.path j)) (suc R.dummy) x));
+  }
+
+  preserves_answer_value : (m r l : ℕ) → (s.callers c).point ≡ point.Answer (answer.LoadValue m r l) → Lawful z (step_at z s c (point.Answer (answer.LoadValue m r l)))
+  preserves_answer_value m r l is = let f = known z s L c (point.Answer (answer.LoadValue m r l)) is in
+      on_read m r l (me.values ++ s.memory.value r ∷ []) (write s.memory (Value r) (OfValue (s.memory.value r))) (write_read s.memory (Value r)) f.call.0 (value_read m r l f.here.0)
+
+  -- each step of the owner of a finished batch
+  pub preserves_answer : (p : AnswerPoint) → (s.callers c).point ≡ point.Answer p → Lawful z (step_at z s c (point.Answer p))
+  preserves_answer (answer.LoadOldTail h) is = preserves_answer_tail h is
+  preserves_answer (answer.LoadLink m r l) is = preserves_answer_link m r l is
+  preserves_answer (answer.LoadValue m r l) is = preserves_answer_value m r l is

@@ -1,0 +1,265 @@
+-- Each step of the owner of a batch keeps the lane lawful, until its announcement is installed.
+use Rattle.std.proofs.Common.{◌≡◌, ◌≢◌, inl, inr, ℕ, suc, ◌+◌, ◌-◌, ◌*◌, ◌<◌, Bool, true, false, cond, [], length, sym, refl, ap, ◌∙◌, subst, arith, le_refl, Some, None}
+use Rattle.std.proofs.lemmas.List.{append-nil}
+use Rattle.std.proofs.lemmas.Nat.{div-mul-add}
+use mathlib.Core.Logic.{dite}
+use native.Mathlib.Decide.{ℕ_discrete}
+use Rattle.excess_count.specs.Got.{enqueued}
+use Rattle.word_rows.specs.declared.place.Place.{Place}
+use Rattle.word_rows.specs.declared.batch_words.BatchCounts.{BatchCounts}
+use Rattle.word_rows.specs.declared.head_word.HeadWord.{HeadWord}
+use Rattle.word_rows.specs.declared.head_word.HeadWord.TheVariants.{Node, Ann}
+use Rattle.word_rows.specs.declared.link_word.LinkWord.TheVariants.{Single}
+use Rattle.word_rows.specs.declared.location.Location.TheVariants.{Head}
+use Rattle.word_rows.specs.declared.content.Content.TheVariants.{OfHead}
+use Rattle.core_model.specs.declared.point.Notice.{Notice}
+use Rattle.core_model.specs.declared.point.Draft.{Draft}
+use Rattle.core_model.specs.declared.point.Point.{Point}
+use Rattle.core_model.specs.Functions.{put, run}
+use Rattle.core_model.specs.LaneSizes.{LaneSizes, item, IsItem}
+use Rattle.core_model.specs.Batches.{own_ann, owner_of}
+use Rattle.core_model.specs.State.{Memory, Caller, command, State, write}
+use Rattle.core_model.specs.Act.{is_node}
+use Rattle.core_model.specs.Fact.{linearized_is, drafts, fills}
+use Rattle.core_model.specs.Help.{help_of}
+use Rattle.core_model.specs.Step.{stepped, step_at, step_with}
+use Rattle.core_model.specs.Facts.{Holds, AtPoint}
+use Rattle.core_model.specs.Ghost.{Stage, unused, waiting, decided, Ghost, World, at}
+use Rattle.core_model.specs.Lawful.{Headed, Announced, Told, IsTold, Pending, Waits, Unmade, Lawful}
+use Rattle.core_model.proofs.Puts.{put_here, put_else}
+use Rattle.core_model.proofs.Stable.{world, unused_waits, unused_decides, waits_decides, one_some, some_none, Rely, owns_stable}
+use Rattle.core_model.proofs.Preserves.{kept_stepped, known, stutters, preserves, changed, same_places}
+use Rattle.core_model.proofs.BatchRows.{preserves_batch_value, preserves_batch_chain, preserves_batch_field, run_of, length-enqueued}
+use Rattle.core_model.specs.declared.point.Point.TheVariants.{Idle}
+use Rattle.core_model.specs.Batch.{on_head}
+use Rattle.core_model.specs.declared.point.BatchPoint.{BatchPoint}
+use Rattle.core_model.proofs.Lookups.{node_found, finds}
+use Rattle.core_model.specs.declared.point.Back.TheVariants as back
+use Rattle.core_model.specs.declared.point.BatchPoint.TheVariants as batch
+use Rattle.core_model.specs.declared.point.Point.TheVariants as point
+use Rattle.core_model.specs.declared.point.HelpPoint.TheVariants as help
+use Rattle.word_rows.specs.declared.location.AnnField.TheVariants as field
+
+module _ (z : LaneSizes) (s : State) (L : Lawful z s) (c : ℕ) where
+  module _ (d : Draft) (f : AtPoint z (world s L.ghost) c (s.callers c) (point.Batch d batch.Install)) (head : s.memory.head ≡ Node d.notice.old_head) where
+    abbrev G : Ghost
+    G = L.ghost
+
+    abbrev me : Caller
+    me = s.callers c
+
+    abbrev a : ℕ
+    a = d.ann
+
+    abbrev n : Notice
+    n = d.notice
+
+    off : Holds z (world s L.ghost) c (linearized_is false)
+    off = f.call.0
+
+    is : Holds z (world s L.ghost) c (drafts (command (s.callers c)) d)
+    is = f.call.1.0
+
+    rows : Holds z (world s L.ghost) c (fills (s.callers c).taken d.notice (s.callers c).ops d.notice.counts.enqs (d.notice.counts.enqs - 1))
+    rows = f.here.1.0
+
+    fresh : G.stage a ≡ unused
+    fresh = f.here.0.0
+
+    own : owner_of z a ≡ c
+    own = f.here.0.1
+
+    -- all its words are written
+    says : s.memory.notice a ≡ n
+    says = let w = f.here.1.1.0.2 in λ i. record {
+      old_head = f.here.0.2 i;
+      first = w.1.1.1.1.1.1.1.0 i;
+      last = w.1.1.1.1.1.1.0 i;
+      counts = w.1.1.1.1.1.0 i;
+      number = w.1.1.1.1.0 i;
+      order0 = w.1.1.1.0 i;
+      order1 = w.1.1.0 i;
+      order2 = w.1.0 i;
+      order3 = w.0 i;
+    }
+
+    unknown : s.memory.old_tail a ≡ None
+    unknown = f.here.1.1.0.2.1.1.1.1.1.1.1.1.0
+
+    alone : G.ann ≡ None
+    alone = (node_found z s L c n.old_head head).0
+
+    old_head_at : n.old_head ≡ at z.first G.path G.head
+    old_head_at = (node_found z s L c n.old_head head).1
+
+    none_stands : (x : ℕ) → G.ann ≡ Some x → ⊥
+    none_stands x at = some_none (sym at ∙ alone)
+
+    none_waits : (x : ℕ) → G.stage x ≡ waiting → ⊥
+    none_waits x waits = none_stands x (L.announced.waits x waits).0
+
+    abbrev stage' : ℕ → Stage
+    stage' = put G.stage a waiting
+
+    stage_here : stage' a ≡ waiting
+    stage_here = put_here G.stage a waiting
+
+    other : (x : ℕ) → G.stage x ≢ unused → x ≢ a
+    other x there e = there (ap G.stage e ∙ fresh)
+
+    stage_else : (x : ℕ) → x ≢ a → stage' x ≡ G.stage x
+    stage_else x ne = put_else G.stage a waiting x ne
+
+    is_a : (x : ℕ) → stage' x ≡ waiting → x ≡ a
+    is_a x waits = dite (ℕ_discrete x a) (λ e. e) (λ ne. absurd (none_waits x (sym (stage_else x ne) ∙ waits)))
+
+    old_decided : (x i : ℕ) → stage' x ≡ decided i → G.stage x ≡ decided i
+    old_decided x i e = dite (ℕ_discrete x a) (λ same. absurd (waits_decides (ap stage' same ∙ stage_here) e)) (λ ne. sym (stage_else x ne) ∙ e)
+
+    abbrev G' : Ghost
+    G' = record G { ann = Some a; stage = stage'; chain = λ i. n.first + i }
+
+    abbrev memory' : Memory
+    memory' = record s.memory { head = Ann a n.old_head.count }
+
+    abbrev W : World
+    W = record { memory = memory'; history = s.history; ghost = G' }
+
+    abbrev t' : Point
+    t' = point.Help (help_of a back.Own) help.LoadOldHead
+
+    abbrev k' : Caller
+    k' = stepped me t'
+
+    installing : Rely z (λ _. ⊥) (world s G) W
+    installing = record {
+      longer = le_refl _;
+      heads = le_refl _;
+      tails = le_refl _;
+      path_same = λ _ _. refl;
+      chained_same = λ _ _. refl;
+      spot_own = λ _ u _. u;
+      on_same = λ i r on. (on.1, on.3, refl);
+      link_own = λ _ _ _. refl;
+      value_own = λ _ _ _. refl;
+      value_path = λ _ _ _. refl;
+      anns = record {
+        installed = λ x there e. there (sym (stage_else x (other x there)) ∙ e);
+        waited = λ x waits there. sym (stage_else x (other x there)) ∙ waits;
+        done = λ x i e. stage_else x (other x (λ u. unused_decides u e)) ∙ e;
+        decides = λ x i there e. inl (old_decided x i e);
+        notice_same = λ _ _. refl;
+        old_same = λ _ _ _ e. e;
+        stood = λ x at. inr (ap G.stage (sym (one_some at)) ∙ fresh, ap stage' (sym (one_some at)) ∙ stage_here);
+      };
+      more = ([], sym (append-nil s.history));
+    }
+
+    headed' : Headed z.first (Ann a n.old_head.count) G.path G.head G.rest (Some a) G.shown G.queued
+    headed' = record { named = ap (λ (p : Place). Ann a p.count) old_head_at; none = λ e. absurd (some_none e); fits = L.list.head.fits }
+
+    announced' : Announced z memory' G'
+    announced' = let A = L.announced in record {
+      inside = λ x e. subst (λ (y : ℕ). y < z.callers * z.callers) (one_some e) is.5;
+      installed = λ x e u. unused_waits u (ap stage' (sym (one_some e)) ∙ stage_here);
+      old_head = λ x e. ap (λ (y : ℕ). (s.memory.notice y).old_head) (sym (one_some e)) ∙ (f.here.0.2 ∙ old_head_at);
+      waits = λ x e. (ap Some (sym (is_a x e)), L.list.head.none alone);
+      bound = λ x i e. A.bound x i (old_decided x i e);
+      standing = λ x i at e. absurd (other x (λ u. unused_decides u (old_decided x i e)) (sym (one_some at)));
+      unknown = λ x e. ap s.memory.old_tail (is_a x e) ∙ unknown;
+      recorded = λ x i q e. A.recorded x i q (old_decided x i e);
+      unrecorded = λ x i e o. absurd (none_stands x (A.unrecorded x i (old_decided x i e) o).0);
+      lags = λ below by. let x = A.lags below by in absurd (none_stands x.0 x.2);
+    }
+
+    row_home : (i : ℕ) → i < n.counts.enqs → (z.home (n.first + i) ≡ c) × (n.first + i < z.rows) × (G.spot (n.first + i) ≡ None) × IsItem z (n.first + i)
+    row_home i below = rows.0 i below
+
+    pending_here : Pending z s.memory.link s.memory.value G.spot (λ i. n.first + i) (G.linearized c) n c k'
+    pending_here = let some = is.2 in record {
+      known = is.0;
+      not_yet = off.0;
+      some = is.2;
+      starts = let e : n.first + 0 ≡ n.first = omega arith in e;
+      ends = λ i e. let l = is.3 in let same : n.first + i ≡ n.last = omega arith in same;
+      homes = λ i below. (row_home i below).0;
+      inside = λ i below. (row_home i below).1;
+      items = λ i below. (row_home i below).3;
+      unlinked = λ i below. (row_home i below).2;
+      taken = λ i j below from. rows.1 i j below from;
+      apart = λ i j less below e. absurd (omega arith);
+      joined = λ i below. rows.3 i (omega arith) (omega arith) ∙ ap Single (let e : suc (n.first + i) ≡ n.first + suc i = omega arith in e);
+      last = λ i e. rows.4 i (omega arith) (omega arith);
+      values = let long : length (enqueued me.ops) ≡ n.counts.enqs = length-enqueued me.ops ∙ sym (ap (λ (y : BatchCounts). y.enqs) is.1.0) in
+          run_of (enqueued me.ops) (λ i. s.memory.value (n.first + i)) 0 (λ l below. ap (λ (y : ℕ). s.memory.value (n.first + y)) (let e : 0 + l ≡ l = omega arith in e) ∙ rows.2 l (omega arith) (omega arith))
+          ∙ ap (run (λ i. s.memory.value (n.first + i)) 0) long;
+    }
+
+    pending' : (x : ℕ) → Waits z memory' G' (put s.callers c k') x
+    pending' x waits = subst (λ (y : ℕ). Pending z s.memory.link s.memory.value G.spot (λ i. n.first + i) (G.linearized (owner_of z y)) (s.memory.notice y) (owner_of z y) (put s.callers c k' (owner_of z y))) (sym (is_a x waits))
+        (subst (λ (o : ℕ). Pending z s.memory.link s.memory.value G.spot (λ i. n.first + i) (G.linearized o) (s.memory.notice a) o (put s.callers c k' o)) (sym own)
+        (subst (λ (y : Notice × Caller). Pending z s.memory.link s.memory.value G.spot (λ i. n.first + i) (G.linearized c) y.0 c y.1) (λ i. (sym says i, sym (put_here s.callers c k') i)) pending_here))
+
+    told_here : Told s.memory.value G.path (stage' a) n c k'
+    told_here = record { describes = is.1; helps = tt; values = λ i d. absurd (waits_decides stage_here d) }
+
+    told' : (x : ℕ) → IsTold z memory' G' (put s.callers c k') x
+    told' x at = subst (λ (y : ℕ). Told s.memory.value G.path (stage' y) (s.memory.notice y) (owner_of z y) (put s.callers c k' (owner_of z y))) (one_some at)
+        (subst (λ (o : ℕ). Told s.memory.value G.path (stage' a) (s.memory.notice a) o (put s.callers c k' o)) (sym own)
+        (subst (λ (y : Notice × Caller). Told s.memory.value G.path (stage' a) y.0 c y.1) (λ i. (sym says i, sym (put_here s.callers c k') i)) told_here))
+
+    -- an announcement that wasn't made is another one
+    unmade' : (e : ℕ) → e ≢ c → Unmade z stage' e (s.callers e)
+    unmade' e ne i from below = stage_else (own_ann z e i) (λ same. ne (sym (div-mul-add e z.callers i below) ∙ (ap (owner_of z) same ∙ own))) ∙ (L.callers e).unmade i from below
+
+    pub installed : Lawful z (changed s c memory' s.history k')
+    installed = preserves z s L c memory' s.history G' k' (λ _. ⊥) (λ _ x. absurd x) installing
+        (λ e ne. record { linearized = refl; made = refl; drafts = λ x at u. (stage_else x (λ same. ne (sym at ∙ (ap (owner_of z) same ∙ own))) ∙ u, refl, refl); unmade = unmade' e ne })
+        (L.history)
+        (L.queue)
+        (record { rows = L.list.rows; item_rows = L.list.item_rows; head = headed'; tail = L.list.tail; counts = L.list.counts; links = L.list.links })
+        announced' told' pending'
+        (let k = (L.callers c).knows in record {
+          unmade = λ i from below. stage_else (own_ann z c i) (is.4 i from) ∙ (L.callers c).unmade i from below;
+          own_groups = (L.callers c).own_groups;
+          allowed = (L.callers c).allowed;
+          knows = record {
+            unused = λ i from below known. owns_stable z (λ _. ⊥) (world s G) W installing c (item z c i) (λ x. x) (k.unused i from below known);
+            started = k.started;
+            last = (kept_stepped s.history c me t' me.values k.last);
+            at_point = record {
+              call = (
+                record { installed = there; inside = is.5; old_head = λ l. absurd (omega arith); first = λ l. absurd (omega arith); last = λ l. absurd (omega arith); counts = λ l. absurd (omega arith) },
+                ((there, own, (λ i e. absurd (waits_decides stage_here e)), λ x at _. sym (one_some at)), tt),
+              );
+              here = tt;
+            };
+          };
+        }) where
+          there : stage' a ≢ unused
+          there u = unused_waits u stage_here
+
+  install_found : (d : Draft) (x : HeadWord) → s.memory.head ≡ x → (b : Bool) → is_node x d.notice.old_head ≡ b → AtPoint z (world s L.ghost) c (s.callers c) (point.Batch d batch.Install)
+      → Lawful z (changed s c (write s.memory Head (cond b (OfHead (Ann d.ann d.notice.old_head.count)) (OfHead x))) s.history (stepped (s.callers c) (cond b (point.Help (help_of d.ann back.Own) help.LoadOldHead) (point.Batch d batch.LoadHead))))
+  install_found d x at false _ f = stutters z s L c (point.Batch d batch.LoadHead) Head (OfHead x) (ap OfHead at) (record { call = f.call; here = f.here.1 })
+  install_found d (Node p) at true same f = installed d f (at ∙ ap Node (same_places p d.notice.old_head same))
+  install_found d (Ann y m) at true same f = absurd (cc same)
+
+  preserves_install : (d : Draft) → (s.callers c).point ≡ point.Batch d batch.Install → Lawful z (step_at z s c (point.Batch d batch.Install))
+  preserves_install d is = install_found d s.memory.head refl (is_node s.memory.head d.notice.old_head) refl (known z s L c (point.Batch d batch.Install) is)
+
+  -- the owner of a batch, too
+  batch_head : (d : Draft) (h : HeadWord) → s.memory.head ≡ h → AtPoint z (world s L.ghost) c (s.callers c) (point.Batch d batch.LoadHead) → Lawful z (step_with z s c (point.Batch d batch.LoadHead) (OfHead h))
+  batch_head d (Node p) is f = stutters z s L c (point.Batch (on_head d p) (batch.StoreField field.OldHead)) Head (OfHead (Node p)) (ap OfHead is) (record { call = f.call; here = f.here })
+  batch_head d (Ann a n) is f = stutters z s L c (point.Help (help_of a (back.Batch d)) help.LoadOldHead) Head (OfHead (Ann a n)) (ap OfHead is) (record { call = (finds z s L c a n is (back.Batch d), (f.call.0, (f.call.1.0, f.here))); here = tt })
+
+  preserves_batch_head : (d : Draft) → (s.callers c).point ≡ point.Batch d batch.LoadHead → Lawful z (step_at z s c (point.Batch d batch.LoadHead))
+  preserves_batch_head d is = batch_head d s.memory.head refl (known z s L c (point.Batch d batch.LoadHead) is)
+
+  -- each step of the owner of a batch, until that is installed
+  pub preserves_batch : (d : Draft) (p : BatchPoint) → (s.callers c).point ≡ point.Batch d p → Lawful z (step_at z s c (point.Batch d p))
+  preserves_batch d (batch.StoreValue i r v) is = preserves_batch_value z s L c d i r v is
+  preserves_batch d (batch.StoreChain i r n) is = preserves_batch_chain z s L c d i r n is
+  preserves_batch d (batch.StoreField f) is = preserves_batch_field z s L c d f is
+  preserves_batch d batch.LoadHead is = preserves_batch_head d is
+  preserves_batch d batch.Install is = preserves_install d is

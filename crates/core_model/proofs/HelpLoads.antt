@@ -1,0 +1,205 @@
+-- A helper reads the announcement and TAIL, moves TAIL by one row, and records the old tail.
+use Rattle.std.proofs.Common.{◌≡◌, ◌≢◌, ℕ, suc, ◌+◌, ◌<◌, ◌≤◌, eqb, Bool, true, false, cond, [], sym, refl, ap, ◌∙◌, arith, le_refl, Option, Some, None}
+use Rattle.std.proofs.lemmas.List.{append-nil}
+use Rattle.std.proofs.lemmas.Bool.{eqb-true}
+use Rattle.word_rows.specs.declared.place.Place.{Place}
+use Rattle.word_rows.specs.declared.head_word.HeadWord.TheVariants.{Node}
+use Rattle.word_rows.specs.declared.link_word.LinkWord.{LinkWord}
+use Rattle.word_rows.specs.declared.link_word.LinkWord.TheVariants.{Nil, Single, Chain, Shut}
+use Rattle.word_rows.specs.declared.location.AnnField.TheVariants as field
+use Rattle.word_rows.specs.declared.location.Location.TheVariants.{Tail, Link, AnnWord}
+use Rattle.word_rows.specs.declared.content.Content.TheVariants.{OfHead, OfTail, OfLink, OfOldTail, OfChainEnd, OfCounts}
+use Rattle.core_model.specs.declared.point.Help.{Help}
+use Rattle.core_model.specs.declared.point.Point.TheVariants as point
+use Rattle.core_model.specs.declared.point.HelpPoint.TheVariants as help
+use Rattle.core_model.specs.Functions.{put}
+use Rattle.core_model.specs.LaneSizes.{LaneSizes}
+use Rattle.core_model.specs.State.{Memory, State, write}
+use Rattle.core_model.specs.Act.{same_place}
+use Rattle.core_model.specs.Fact.{reads, linked, stands_at, is_old_tail}
+use Rattle.core_model.specs.Step.{stepped, step_with, step_at}
+use Rattle.core_model.specs.Facts.{Holds, AtPoint}
+use Rattle.core_model.specs.Ghost.{Stage, unused, waiting, decided, Ghost, World, positions, at}
+use Rattle.core_model.specs.Lawful.{Lawful}
+use Rattle.core_model.proofs.Puts.{put_here, put_else, put_all}
+use Rattle.core_model.proofs.Stable.{world, unused_decides, waits_decides, one_position, one_some, some_none, anns_moved, Rely}
+use Rattle.core_model.proofs.Preserves.{caller_stable, known, stutters, point_changes, changed}
+use Rattle.core_model.proofs.Tails.{exchanges, with_memory}
+use Rattle.core_model.proofs.Lookups.{on_list, next_found}
+
+-- an installed announcement whose OldTail is known is decided
+pub decided_known : (z : LaneSizes) (s : State) (L : Lawful z s) (a : ℕ) (q : Place) → L.ghost.stage a ≢ unused → s.memory.old_tail a ≡ Some q → (i : ℕ) × (L.ghost.stage a ≡ decided i)
+decided_known z s L a q there is = by (L.ghost.stage a) refl where
+  by : (x : Stage) → L.ghost.stage a ≡ x → (i : ℕ) × (L.ghost.stage a ≡ decided i)
+  by unused e = absurd (there e)
+  by waiting e = absurd (some_none (sym is ∙ L.announced.unknown a e))
+  by (decided i) e = (i, e)
+
+module _ (z : LaneSizes) (s : State) (L : Lawful z s) (c : ℕ) where
+  abbrev G : Ghost
+  G = L.ghost
+
+  pub preserves_help_old_head : (h : Help) → (s.callers c).point ≡ point.Help h help.LoadOldHead → Lawful z (step_at z s c (point.Help h help.LoadOldHead))
+  preserves_help_old_head h is = let f = known z s L c (point.Help h help.LoadOldHead) is in let r = f.call.0 in
+      stutters z s L c (point.Help (record h { old_head = (s.memory.notice h.ann).old_head }) help.LoadFirst) (AnnWord h.ann field.OldHead) (OfHead (Node (s.memory.notice h.ann).old_head)) refl
+      (record { call = (record { installed = r.installed; inside = r.inside; old_head = λ _. refl; first = λ l. absurd (omega arith); last = λ l. absurd (omega arith); counts = λ l. absurd (omega arith) }, f.call.1); here = tt })
+
+  pub preserves_help_first : (h : Help) → (s.callers c).point ≡ point.Help h help.LoadFirst → Lawful z (step_at z s c (point.Help h help.LoadFirst))
+  preserves_help_first h is = let f = known z s L c (point.Help h help.LoadFirst) is in let r = f.call.0 in
+      stutters z s L c (point.Help (record h { first = (s.memory.notice h.ann).first }) help.LoadLast) (AnnWord h.ann field.First) (OfChainEnd (s.memory.notice h.ann).first) refl
+      (record { call = (record { installed = r.installed; inside = r.inside; old_head = λ _. r.old_head (omega arith); first = λ _. refl; last = λ l. absurd (omega arith); counts = λ l. absurd (omega arith) }, f.call.1); here = tt })
+
+  pub preserves_help_last : (h : Help) → (s.callers c).point ≡ point.Help h help.LoadLast → Lawful z (step_at z s c (point.Help h help.LoadLast))
+  preserves_help_last h is = let f = known z s L c (point.Help h help.LoadLast) is in let r = f.call.0 in
+      stutters z s L c (point.Help (record h { last = (s.memory.notice h.ann).last }) help.LoadCounts) (AnnWord h.ann field.Last) (OfChainEnd (s.memory.notice h.ann).last) refl
+      (record { call = (record { installed = r.installed; inside = r.inside; old_head = λ _. r.old_head (omega arith); first = λ _. r.first (omega arith); last = λ _. refl; counts = λ l. absurd (omega arith) }, f.call.1); here = tt })
+
+  pub preserves_help_counts : (h : Help) → (s.callers c).point ≡ point.Help h help.LoadCounts → Lawful z (step_at z s c (point.Help h help.LoadCounts))
+  preserves_help_counts h is = let f = known z s L c (point.Help h help.LoadCounts) is in let r = f.call.0 in
+      stutters z s L c (point.Help (record h { counts = (s.memory.notice h.ann).counts }) help.LoadTail) (AnnWord h.ann field.Counts) (OfCounts (s.memory.notice h.ann).counts) refl
+      (record { call = (record { installed = r.installed; inside = r.inside; old_head = λ _. r.old_head (omega arith); first = λ _. r.first (omega arith); last = λ _. r.last (omega arith); counts = λ _. refl }, f.call.1); here = tt })
+
+  pub preserves_help_tail : (h : Help) → (s.callers c).point ≡ point.Help h help.LoadTail → Lawful z (step_at z s c (point.Help h help.LoadTail))
+  preserves_help_tail h is = let f = known z s L c (point.Help h help.LoadTail) is in let within = L.list.tail.within in let from = L.list.tail.after_head in let count = ap (λ (p : Place). p.count) L.list.tail.named in
+      stutters z s L c (point.Help h (help.LoadOldTail s.memory.tail)) Tail (OfTail s.memory.tail) refl
+      (record { call = f.call; here = (on_list z s L c s.memory.tail G.tail count (ap (λ (p : Place). p.row) L.list.tail.named) from (omega arith), (omega arith, ((f.call.0.installed, λ _. omega arith), tt))) })
+
+  -- where OldTail isn't known, the tail that was read before is no later than the old tail
+  old_tail_loaded : (h : Help) (p : Place) (x : Option Place) → s.memory.old_tail h.ann ≡ x → AtPoint z (world s L.ghost) c (s.callers c) (point.Help h (help.LoadOldTail p)) → Lawful z (step_with z s c (point.Help h (help.LoadOldTail p)) (OfOldTail x))
+  old_tail_loaded h p None is f = stutters z s L c (point.Help h (help.LoadLink p)) (AnnWord h.ann field.OldTail) (OfOldTail None) (ap OfOldTail is) record {
+    call = f.call;
+    here = (
+      f.here.0,
+      (
+        f.here.1.0,
+        (
+          f.here.1.1.0,
+          (
+            (
+              f.call.0.installed,
+              λ i e. let on = f.here.0 in let below = on.2.0 in let count = on.1 in let late = f.here.1.0 in (
+                omega arith,
+                λ j d. let late_tail = (L.announced.unrecorded h.ann j d is).1 in let b = L.announced.bound h.ann j d in let some = b.some in let within = b.within in omega arith,
+              ),
+            ),
+            tt,
+          ),
+        ),
+      ),
+    );
+  }
+  old_tail_loaded h p (Some q) is f = let d = decided_known z s L h.ann q f.call.0.installed is in
+      stutters z s L c (point.Help h (help.LoadTailOver q)) (AnnWord h.ann field.OldTail) (OfOldTail (Some q)) (ap OfOldTail is) (record { call = f.call; here = ((d.0, d.1, is), tt) })
+
+  pub preserves_help_old_tail : (h : Help) (p : Place) → (s.callers c).point ≡ point.Help h (help.LoadOldTail p) → Lawful z (step_at z s c (point.Help h (help.LoadOldTail p)))
+  preserves_help_old_tail h p is = old_tail_loaded h p (s.memory.old_tail h.ann) refl (known z s L c (point.Help h (help.LoadOldTail p)) is)
+
+  -- the link of the row is Chain of First: where the announcement stands, its rows are linked there
+  chain_seen : (h : Help) (p : Place) → Holds z (world s L.ghost) c (reads 4 h) → Holds z (world s L.ghost) c (linked p) → Holds z (world s L.ghost) c (stands_at h.ann p) → s.memory.link p.row ≡ Chain h.first
+      → Holds z (world s L.ghost) c (is_old_tail h.ann p)
+  chain_seen h p r on stood is = (r.installed, λ at_head. by at_head (G.stage h.ann) refl) where
+    next : (suc on.0 < positions G) × (G.chained on.0 ≡ true)
+    next = (next_found z s L c p h.first true on is).1 on.0 on.1
+
+    first_is : G.path (suc on.0) ≡ (s.memory.notice h.ann).first
+    first_is = ((next_found z s L c p h.first true on is).0.2 on.0 on.1).1 ∙ sym (r.first (omega arith))
+
+    by : G.ann ≡ Some h.ann → (x : Stage) → G.stage h.ann ≡ x → (i : ℕ) × (G.stage h.ann ≡ decided i) × (i < positions G) × (p ≡ at z.first G.path i)
+    by at_head unused e = absurd (r.installed e)
+    by at_head waiting e = let P = L.pending h.ann e in let from = stood.1 at_head in let count = on.1 in let below = next.0 in
+        absurd (some_none (sym (L.list.rows.spots (suc on.0) (omega arith) (omega arith)) ∙ (ap G.spot (first_is ∙ sym P.starts) ∙ P.unlinked 0 P.some)))
+    by at_head (decided i) e = let from = stood.1 at_head in let count = on.1 in let below = next.0 in let b = L.announced.bound h.ann i e in let some = b.some in let within = b.within in let after = (L.announced.standing h.ann i at_head e).from in
+        let same = one_some (sym (L.list.rows.spots (suc i) (omega arith) (omega arith)) ∙ (ap G.spot (b.starts ∙ sym first_is) ∙ L.list.rows.spots (suc on.0) (omega arith) (omega arith))) in let here : on.0 ≡ i = omega arith in
+        (i, e, omega arith, λ y. record { row = (sym on.2.2 ∙ ap G.path here) y; count = (on.1 ∙ ap (λ (x : ℕ). z.first + x) here) y })
+
+  help_linked : (h : Help) (p : Place) (x : LinkWord) → s.memory.link p.row ≡ x → AtPoint z (world s L.ghost) c (s.callers c) (point.Help h (help.LoadLink p)) → Lawful z (step_with z s c (point.Help h (help.LoadLink p)) (OfLink x))
+  help_linked h p Nil is f = stutters z s L c (point.Help h (help.LinkChain p)) (Link p.row) (OfLink Nil) (ap OfLink is) f
+  help_linked h p (Single n) is f = let next = next_found z s L c p n false f.here.0 is in
+      stutters z s L c (point.Help h (help.PassTail p n)) (Link p.row) (OfLink (Single n)) (ap OfLink is) (record { call = f.call; here = (next.0, (next.1, tt)) })
+  help_linked h p (Chain n) is f = by (eqb n h.first) refl where
+    by : (b : Bool) → eqb n h.first ≡ b → Lawful z (changed s c (write s.memory (Link p.row) (OfLink (Chain n))) s.history (stepped (s.callers c) (point.Help h (cond b (help.RecordTail p) help.LoadTail))))
+    by true e = stutters z s L c (point.Help h (help.RecordTail p)) (Link p.row) (OfLink (Chain n)) (ap OfLink is) (record { call = f.call; here = (chain_seen h p f.call.0 f.here.0 f.here.1.1.0 (is ∙ ap Chain (eqb-true n h.first e)), tt) })
+    by false e = stutters z s L c (point.Help h help.LoadTail) (Link p.row) (OfLink (Chain n)) (ap OfLink is) (record { call = f.call; here = tt })
+  help_linked h p Shut is f = stutters z s L c (point.Help h help.LoadTail) (Link p.row) (OfLink Shut) (ap OfLink is) (record { call = f.call; here = tt })
+
+  pub preserves_help_link : (h : Help) (p : Place) → (s.callers c).point ≡ point.Help h (help.LoadLink p) → Lawful z (step_at z s c (point.Help h (help.LoadLink p)))
+  preserves_help_link h p is = help_linked h p (s.memory.link p.row) refl (known z s L c (point.Help h (help.LoadLink p)) is)
+
+  pub preserves_help_pass : (h : Help) (p : Place) (n : ℕ) → (s.callers c).point ≡ point.Help h (help.PassTail p n) → Lawful z (step_at z s c (point.Help h (help.PassTail p n)))
+  preserves_help_pass h p n is = let f = known z s L c (point.Help h (help.PassTail p n)) is in exchanges z s L c p n (stepped (s.callers c) (point.Help h help.LoadTail)) f.here.0 f.here.1.0
+      (λ memory l. let k = known z (with_memory z s L c memory) l c (point.Help h (help.PassTail p n)) is in point_changes z (with_memory z s L c memory) l c (point.Help h help.LoadTail) (record { call = k.call; here = tt })) (same_place s.memory.tail p) refl
+
+  -- OldTail is recorded
+  module _ (a : ℕ) (p : Place) (old : Holds z (world s L.ghost) c (is_old_tail a p)) (none : s.memory.old_tail a ≡ None) where
+    placed : (i : ℕ) × (G.stage a ≡ decided i) × (p ≡ at z.first G.path i)
+    placed = by (G.stage a) refl where
+      stood : G.ann ≡ Some a → (i : ℕ) × (G.stage a ≡ decided i) × (p ≡ at z.first G.path i)
+      stood at_head = let x = old.1 at_head in (x.0, x.1, x.3)
+
+      by : (x : Stage) → G.stage a ≡ x → (i : ℕ) × (G.stage a ≡ decided i) × (p ≡ at z.first G.path i)
+      by unused e = absurd (old.0 e)
+      by waiting e = stood (L.announced.waits a e).0
+      by (decided i) e = stood (L.announced.unrecorded a i e none).0
+
+    abbrev old' : ℕ → Option Place
+    old' = put s.memory.old_tail a (Some p)
+
+    abbrev memory' : Memory
+    memory' = record s.memory { old_tail = old' }
+
+    abbrev R : World
+    R = record { memory = memory'; history = s.history; ghost = G }
+
+    apart : (x : ℕ) → G.stage x ≡ unused → x ≢ a
+    apart x u e = unused_decides (sym (ap G.stage e) ∙ u) placed.1
+
+    recording : Rely z (λ _. ⊥) (world s G) R
+    recording = record {
+      longer = le_refl _;
+      heads = le_refl _;
+      tails = le_refl _;
+      path_same = λ _ _. refl;
+      chained_same = λ _ _. refl;
+      spot_own = λ _ u _. u;
+      on_same = λ i r on. (on.1, on.3, refl);
+      link_own = λ _ _ _. refl;
+      value_own = λ _ _ _. refl;
+      value_path = λ _ _ _. refl;
+      anns = anns_moved z (world s G) R refl (λ _ _. refl) (λ x q _ is. put_else s.memory.old_tail a (Some p) x (λ e. some_none (sym is ∙ (ap s.memory.old_tail e ∙ none))) ∙ is) (λ x at_head. (at_head, refl, refl));
+      more = ([], sym (append-nil s.history));
+    }
+
+    pub recorded : Lawful z record { memory = record s.memory { old_tail = put s.memory.old_tail a (Some p) }; history = s.history; callers = s.callers }
+    recorded = record {
+      ghost = G;
+      history = L.history;
+      queue = L.queue;
+      list = L.list;
+      announced = let A = L.announced in record {
+        inside = A.inside;
+        installed = A.installed;
+        old_head = A.old_head;
+        waits = A.waits;
+        bound = A.bound;
+        standing = A.standing;
+        unknown = λ x e. put_else s.memory.old_tail a (Some p) x (λ same. waits_decides e (ap G.stage same ∙ placed.1)) ∙ A.unknown x e;
+        recorded = λ x i q e. put_all s.memory.old_tail a (Some p) (λ x y. (i : ℕ) → G.stage x ≡ decided i → y ≡ Some q → q ≡ at z.first G.path i)
+            (λ i e is. sym (one_some is) ∙ (placed.2 ∙ ap (at z.first G.path) (one_position placed.1 e))) (λ x _ i e is. A.recorded x i q e is) x i e;
+        unrecorded = λ x i e. put_all s.memory.old_tail a (Some p) (λ x y. (i : ℕ) → G.stage x ≡ decided i → y ≡ None → (G.ann ≡ Some x) × (G.tail ≤ i))
+            (λ i _ is. absurd (some_none is)) (λ x _ i e is. A.unrecorded x i e is) x i e;
+        lags = A.lags;
+      };
+      told = L.told;
+      pending = L.pending;
+      callers = λ d. caller_stable z (λ _. ⊥) (world s G) R recording d (s.callers d) (λ _ _ x. x) (record { linearized = refl; made = refl; drafts = λ x _ u. (u, refl, put_else s.memory.old_tail a (Some p) x (apart x u)); unmade = (L.callers d).unmade }) (L.callers d);
+    }
+
+  tail_recorded : (h : Help) (p : Place) (x : Option Place) → s.memory.old_tail h.ann ≡ x → (s.callers c).point ≡ point.Help h (help.RecordTail p) → Lawful z (step_with z s c (point.Help h (help.RecordTail p)) (OfOldTail x))
+  tail_recorded h p None at_none is = let f = known z s L c (point.Help h (help.RecordTail p)) is in let m : Memory = record s.memory { old_tail = put s.memory.old_tail h.ann (Some p) } in let s' : State = record { memory = m; history = s.history; callers = s.callers } in
+      let L' : Lawful z s' = recorded h.ann p f.here.0 at_none in let k = known z s' L' c (point.Help h (help.RecordTail p)) is in let known_tail = put_here s.memory.old_tail h.ann (Some p) in let d = decided_known z s' L' h.ann p k.call.0.installed known_tail in
+      point_changes z s' L' c (point.Help h (help.LoadTailOver p)) (record { call = k.call; here = ((d.0, d.1, known_tail), tt) })
+  tail_recorded h p (Some q) at_some is = let f = known z s L c (point.Help h (help.RecordTail p)) is in let d = decided_known z s L h.ann q f.call.0.installed at_some in
+      stutters z s L c (point.Help h (help.LoadTailOver q)) (AnnWord h.ann field.OldTail) (OfOldTail (Some q)) (ap OfOldTail at_some) (record { call = f.call; here = ((d.0, d.1, at_some), tt) })
+
+  pub preserves_record_tail : (h : Help) (p : Place) → (s.callers c).point ≡ point.Help h (help.RecordTail p) → Lawful z (step_at z s c (point.Help h (help.RecordTail p)))
+  preserves_record_tail h p is = tail_recorded h p (s.memory.old_tail h.ann) refl is

@@ -1,0 +1,391 @@
+-- A helper moves TAIL over the chain, walks to the new dummy, and moves HEAD to it.
+use Rattle.std.proofs.Common.{◌≡◌, inr, ⊎_elim, ℕ, zero, suc, ◌+◌, ◌-◌, ◌*◌, ◌<◌, ◌≤◌, eqb, ltb, Bool, true, false, cond, [], sym, refl, ap, ◌∙◌, subst, arith, le_refl, eq-eqb, Some, None}
+use Rattle.std.proofs.lemmas.List.{append-nil}
+use Rattle.std.proofs.lemmas.Bool.{eqb-true, and_from, and_parts, lt-ltb}
+use mathlib.Core.Logic.{dite}
+use native.Mathlib.Decide.{dec_le}
+use Rattle.word_rows.specs.declared.place.Place.{Place}
+use Rattle.word_rows.specs.declared.batch_words.BatchCounts.{BatchCounts}
+use Rattle.word_rows.specs.declared.head_word.HeadWord.{HeadWord}
+use Rattle.word_rows.specs.declared.head_word.HeadWord.TheVariants.{Node, Ann}
+use Rattle.word_rows.specs.declared.link_word.LinkWord.{LinkWord}
+use Rattle.word_rows.specs.declared.link_word.LinkWord.TheVariants.{Nil, Single, Chain, Shut}
+use Rattle.word_rows.specs.declared.location.Location.TheVariants.{Head, Tail, Link}
+use Rattle.word_rows.specs.declared.content.Content.TheVariants.{OfHead, OfTail, OfLink}
+use Rattle.core_model.specs.declared.point.Back.{Back}
+use Rattle.core_model.specs.declared.point.Back.TheVariants as back
+use Rattle.core_model.specs.declared.point.Help.{Help}
+use Rattle.core_model.specs.declared.point.Point.TheVariants as point
+use Rattle.core_model.specs.declared.point.HelpPoint.TheVariants as help
+use Rattle.core_model.specs.Functions.{run}
+use Rattle.core_model.specs.LaneSizes.{LaneSizes}
+use Rattle.core_model.specs.Batches.{gets}
+use Rattle.core_model.specs.State.{Memory, Caller, command, State, write}
+use Rattle.core_model.specs.Act.{same_place, is_ann, far_behind}
+use Rattle.core_model.specs.Fact.{reads, old_tail_is, tail_over, gets_so_many, walks}
+use Rattle.core_model.specs.Help.{before_it, walk_on, walk, back_point, back_facts}
+use Rattle.core_model.specs.Step.{stepped, step_with, step_at}
+use Rattle.core_model.specs.Facts.{Holds, Each, AtPoint}
+use Rattle.core_model.specs.Ghost.{waiting, decided, Ghost, World, joint, at}
+use Rattle.core_model.specs.Lawful.{head_word, LinksIn, Bound, Announced, Lawful}
+use Rattle.core_model.proofs.Stable.{world, waits_decides, one_position, one_some, some_none, anns_same, anns_moved, Rely}
+use Rattle.core_model.proofs.Preserves.{caller_stable, known, stutters, point_changes, changed, same_places, drafts_same}
+use Rattle.core_model.proofs.Announces.{stages_moved}
+use Rattle.core_model.proofs.Lookups.{ann_stands, not_ann}
+
+differ : true ≡ false → ⊥
+differ e = cc e
+
+same_place_refl : (p q : Place) → p ≡ q → same_place p q ≡ true
+same_place_refl p q e = and_from (eqb p.row q.row) (eqb p.count q.count) (eq-eqb p.row q.row (ap (λ (x : Place). x.row) e)) (eq-eqb p.count q.count (ap (λ (x : Place). x.count) e))
+
+-- TAIL isn't the old tail of the announcement that stands, so it is past the rows
+past_old : (z : LaneSizes) (s : State) (L : Lawful z s) (a i : ℕ) (q : Place) → L.ghost.stage a ≡ decided i → s.memory.old_tail a ≡ Some q → (s.memory.tail ≡ q → ⊥) → L.ghost.ann ≡ Some a
+    → i + (s.memory.notice a).counts.enqs ≤ L.ghost.tail
+past_old z s L a i q d old apart at_head = ⊎_elim (λ (here : L.ghost.tail ≡ i). absurd (apart (L.list.tail.named ∙ (ap (at z.first L.ghost.path) here ∙ sym (L.announced.recorded a i q d old)))))
+    (λ (past : i + (s.memory.notice a).counts.enqs ≤ L.ghost.tail). past) (L.announced.standing a i at_head d).tails
+
+module _ (z : LaneSizes) (s : State) (L : Lawful z s) (c : ℕ) where
+  abbrev k : Caller
+  k = s.callers c
+
+  -- what the helper knows at the row r, with l links to go
+  on_walk : (h : Help) (m r l : ℕ) → Holds z (world s L.ghost) c (reads 4 h) → Holds z (world s L.ghost) c (walks h.ann r l) → Holds z (world s L.ghost) c (gets_so_many h m) → Holds z (world s L.ghost) c (tail_over h.ann)
+      → Each z (world s L.ghost) c (back_facts c (command (s.callers c)) h.ann h.back) → AtPoint z (world s L.ghost) c (stepped (s.callers c) (point.Help h (walk_on m r l))) (point.Help h (walk_on m r l))
+  on_walk h m r zero reading w g t rest = record { call = (reading, rest); here = (w, (g, (t, tt))) }
+  on_walk h m r (suc l) reading w g t rest = record { call = (reading, rest); here = (w, (g, (t, tt))) }
+
+  -- and after the help, where the announcement has left HEAD
+  goes_back : (h : Help) (b : Back) → (L.ghost.ann ≡ Some h.ann → ⊥) → Holds z (world s L.ghost) c (reads 4 h) → Holds z (world s L.ghost) c (tail_over h.ann) → Each z (world s L.ghost) c (back_facts c (command (s.callers c)) h.ann b)
+      → AtPoint z (world s L.ghost) c (stepped (s.callers c) (back_point h b)) (back_point h b)
+  goes_back h back.Own gone reading t rest = record { call = (((rest.0.2 t.0 t.1).0, λ x at_x own. gone (at_x ∙ ap Some (rest.0.3 x at_x own))), tt); here = (reading, (t, rest)) }
+  goes_back h (back.Enqueue x) gone reading t rest = record { call = rest; here = tt }
+  goes_back h back.Dequeue gone reading t rest = record { call = rest; here = tt }
+  goes_back h (back.Batch d) gone reading t rest = record { call = (rest.0, (rest.1.0, tt)); here = rest.1.1 }
+
+  -- the walk begins
+  module _ (h : Help) (q : Place) (reading : Holds z (world s L.ghost) c (reads 4 h)) (old : Holds z (world s L.ghost) c (old_tail_is h.ann q))
+      (over : L.ghost.ann ≡ Some h.ann → old.0 + (s.memory.notice h.ann).counts.enqs ≤ L.ghost.tail) (rest : Each z (world s L.ghost) c (back_facts c (command (s.callers c)) h.ann h.back)) where
+    abbrev G : Ghost
+    G = L.ghost
+
+    abbrev n : ℕ
+    n = before_it h q
+
+    abbrev m : ℕ
+    m = gets h.counts (before_it h q)
+
+    abbrev i : ℕ
+    i = old.0
+
+    B : Bound z.first G.path G.chained G.cause (G.head + G.rest) G.tail (s.memory.notice h.ann) h.ann old.0
+    B = L.announced.bound h.ann old.0 old.1
+
+    q_is : q ≡ at z.first G.path old.0
+    q_is = L.announced.recorded h.ann old.0 q old.1 old.2
+
+    old_head_is : h.old_head ≡ at z.first G.path B.old_dummy.0
+    old_head_is = sym (reading.old_head (omega arith)) ∙ B.old_dummy.1
+
+    n_is : n ≡ old.0 - B.old_dummy.0
+    n_is = let qc = ap (λ (p : Place). p.count) q_is in let hc = ap (λ (p : Place). p.count) old_head_is in omega arith
+
+    counts_is : (s.memory.notice h.ann).counts ≡ h.counts
+    counts_is = reading.counts (omega arith)
+
+    -- while it stands, its old dummy is the dummy
+    dummy_is : G.ann ≡ Some h.ann → B.old_dummy.0 ≡ G.head
+    dummy_is at_head = let e = ap (λ (p : Place). p.count) (sym B.old_dummy.1 ∙ L.announced.old_head h.ann at_head) in omega arith
+
+    so_many : Holds z (world s L.ghost) c (gets_so_many h m)
+    so_many = (
+      old.0,
+      old.1,
+      (λ at_head. (L.announced.standing h.ann old.0 at_head old.1).shows ∙ (λ y. gets (counts_is y) ((let e = n_is in let d = dummy_is at_head in let f : old.0 - G.head ≡ n = omega arith in f) y))),
+      let e = n_is in let covered = B.covered in let within = B.within in let before = B.old_dummy.2 in let hc = ap (λ (p : Place). p.count) old_head_is in
+          let enqs = ap (λ (y : BatchCounts). y.enqs) counts_is in let deqs = ap (λ (y : BatchCounts). y.deqs) counts_is in let excess = ap (λ (y : BatchCounts). y.excess) counts_is in omega arith,
+    )
+
+    tails : Holds z (world s L.ghost) c (tail_over h.ann)
+    tails = (old.0, old.1, (q, old.2), over)
+
+    begins : (b : Bool) → ltb m n ≡ b → AtPoint z (world s L.ghost) c (stepped (s.callers c) (point.Help h (cond b (walk_on m h.old_head.row m) (walk_on m q.row (m - n))))) (point.Help h (cond b (walk_on m h.old_head.row m) (walk_on m q.row (m - n))))
+    begins true _ = let within = B.within in let before = B.old_dummy.2 in let row = ap (λ (p : Place). p.row) old_head_is in on_walk h m h.old_head.row m reading (
+      old.0,
+      old.1,
+      subst (λ (r : ℕ). r < z.rows) (sym row) (L.list.rows.inside B.old_dummy.0 (omega arith)),
+      λ at_head. let g = so_many.2 at_head in
+          (0, omega arith, omega arith, ap G.path (let d = dummy_is at_head in let e : G.head + 0 ≡ B.old_dummy.0 = omega arith in e) ∙ sym row),
+    ) so_many tails rest
+    begins false less = let within = B.within in let row = ap (λ (p : Place). p.row) q_is in on_walk h m q.row (m - n) reading (
+      old.0,
+      old.1,
+      subst (λ (r : ℕ). r < z.rows) (sym row) (L.list.rows.inside old.0 (omega arith)),
+      λ at_head. let g = so_many.2 at_head in let from = (L.announced.standing h.ann old.0 at_head old.1).from in let e = n_is in let d = dummy_is at_head in
+          (n, (let ge = more in omega arith), omega arith, ap G.path (let f : G.head + n ≡ old.0 = omega arith in f) ∙ sym row),
+    ) so_many tails rest where
+      more : n ≤ m
+      more = dite (dec_le n m) (λ l. l) (λ no. absurd (differ (sym (lt-ltb m n (omega arith)) ∙ less)))
+
+    walk_begins : AtPoint z (world s L.ghost) c (stepped (s.callers c) (point.Help h (walk h q))) (point.Help h (walk h q))
+    walk_begins = begins (ltb m n) refl
+
+module _ (z : LaneSizes) (s : State) (L : Lawful z s) (c : ℕ) where
+  abbrev G0 : Ghost
+  G0 = L.ghost
+
+  over_loaded : (h : Help) (q : Place) (b : Bool) → same_place s.memory.tail q ≡ b → AtPoint z (world s L.ghost) c (s.callers c) (point.Help h (help.LoadTailOver q))
+      → Lawful z (changed s c (write s.memory Tail (OfTail s.memory.tail)) s.history (stepped (s.callers c) (point.Help h (cond b (help.MoveTailOver q) (walk h q)))))
+  over_loaded h q true is f = stutters z s L c (point.Help h (help.MoveTailOver q)) Tail (OfTail s.memory.tail) refl (record { call = f.call; here = f.here })
+  over_loaded h q false is f = stutters z s L c (point.Help h (walk h q)) Tail (OfTail s.memory.tail) refl
+      (walk_begins z s L c h q f.call.0 f.here.0 (past_old z s L h.ann f.here.0.0 q f.here.0.1 f.here.0.2 (λ e. differ (sym (same_place_refl s.memory.tail q e) ∙ is))) f.call.1)
+
+  pub preserves_help_over : (h : Help) (q : Place) → (s.callers c).point ≡ point.Help h (help.LoadTailOver q) → Lawful z (step_at z s c (point.Help h (help.LoadTailOver q)))
+  preserves_help_over h q is = over_loaded h q (same_place s.memory.tail q) refl (known z s L c (point.Help h (help.LoadTailOver q)) is)
+
+  -- TAIL moves over the chain
+  module _ (h : Help) (q : Place) (reading : Holds z (world s L.ghost) c (reads 4 h)) (old : Holds z (world s L.ghost) c (old_tail_is h.ann q)) (is : s.memory.tail ≡ q) where
+    abbrev a : ℕ
+    a = h.ann
+
+    abbrev enqs : ℕ
+    enqs = (s.memory.notice h.ann).counts.enqs
+
+    BO : Bound z.first L.ghost.path L.ghost.chained L.ghost.cause (L.ghost.head + L.ghost.rest) L.ghost.tail (s.memory.notice h.ann) h.ann old.0
+    BO = L.announced.bound h.ann old.0 old.1
+
+    tail_is : L.ghost.tail ≡ old.0
+    tail_is = let e = ap (λ (p : Place). p.count) (sym L.list.tail.named ∙ (is ∙ L.announced.recorded h.ann old.0 q old.1 old.2)) in omega arith
+
+    lag : (x : ℕ) × (L.ghost.stage x ≡ decided L.ghost.tail) × (L.ghost.ann ≡ Some x) × (L.ghost.head + L.ghost.rest ≤ L.ghost.tail + (s.memory.notice x).counts.enqs)
+    lag = let t = tail_is in let some = BO.some in let within = BO.within in L.announced.lags (omega arith) (ap L.ghost.chained t ∙ BO.by_chain)
+
+    -- it is the announcement that stands, and its rows are the last ones
+    lag_is : lag.0 ≡ h.ann
+    lag_is = sym (L.announced.bound lag.0 L.ghost.tail lag.1).causes ∙ (ap L.ghost.cause tail_is ∙ BO.causes)
+
+    stands : L.ghost.ann ≡ Some h.ann
+    stands = lag.2 ∙ ap Some lag_is
+
+    alone : (x : ℕ) → L.ghost.ann ≡ Some x → x ≡ h.ann
+    alone x at_head = one_some (sym at_head ∙ stands)
+
+    end : L.ghost.tail + enqs ≡ L.ghost.head + L.ghost.rest
+    end = let t = tail_is in let within = BO.within in let l = subst (λ (y : ℕ). L.ghost.head + L.ghost.rest ≤ L.ghost.tail + (s.memory.notice y).counts.enqs) lag_is lag.3 in omega arith
+
+    abbrev GT : Ghost
+    GT = record L.ghost { tail = L.ghost.tail + enqs }
+
+    abbrev memory_over : Memory
+    memory_over = record s.memory { tail = far_behind q h.last h.counts.enqs }
+
+    abbrev W : World
+    W = record { memory = memory_over; history = s.history; ghost = GT }
+
+    rely : Rely z (λ _. ⊥) (world s L.ghost) W
+    rely = record {
+      longer = le_refl _;
+      heads = le_refl _;
+      tails = omega arith;
+      path_same = λ _ _. refl;
+      chained_same = λ _ _. refl;
+      spot_own = λ _ u _. u;
+      on_same = λ i r on. (on.1, on.3, refl);
+      link_own = λ _ _ _. refl;
+      value_own = λ _ _ _. refl;
+      value_path = λ _ _ _. refl;
+      anns = anns_same z (world s L.ghost) W refl refl refl refl refl refl;
+      more = ([], sym (append-nil s.history));
+    }
+
+    went_over : Lawful z record { memory = record s.memory { tail = far_behind q h.last h.counts.enqs }; history = s.history; callers = s.callers }
+    went_over = let e = end in let t = tail_is in let from = L.list.tail.after_head in record {
+      ghost = GT;
+      history = L.history;
+      queue = L.queue;
+      list = record {
+        rows = L.list.rows;
+        item_rows = L.list.item_rows;
+        head = L.list.head;
+        tail = record {
+          named = let count = ap (λ (p : Place). p.count) (sym is ∙ L.list.tail.named) in let same = ap (λ (y : BatchCounts). y.enqs) (reading.counts (omega arith)) in
+              λ i. record { row = (sym (reading.last (omega arith)) ∙ (sym BO.ends ∙ ap (λ (y : ℕ). L.ghost.path (y + enqs)) (sym t))) i; count = (let f : q.count + h.counts.enqs ≡ z.first + (L.ghost.tail + enqs) = omega arith in f) i };
+          after_head = omega arith;
+          within = omega arith;
+          lags = λ below _. absurd (omega arith);
+        };
+        counts = L.list.counts;
+        links = L.list.links;
+      };
+      announced = stages_moved z.first (z.callers * z.callers) G0.stage G0.ann s.memory.notice s.memory.old_tail G0.path G0.path G0.chained G0.chained G0.cause G0.head G0.head (G0.head + G0.rest) (G0.head + G0.rest) G0.shown G0.shown G0.tail (G0.tail + enqs)
+          (le_refl _) (omega arith) (λ _ _. refl) (λ _ _. refl) (omega arith) (λ _ _. (refl, refl))
+          (λ x i at_head d. inr (subst (λ (y : ℕ). i + (s.memory.notice y).counts.enqs ≤ G0.tail + enqs) (sym (alone x at_head)) (let same = one_position (ap G0.stage (sym (alone x at_head)) ∙ d) old.1 in omega arith)))
+          (λ x i d none. absurd (some_none (sym old.2 ∙ (ap s.memory.old_tail (sym (alone x (L.announced.unrecorded x i d none).0)) ∙ none))))
+          (λ below _. absurd (omega arith)) L.announced;
+      told = L.told;
+      pending = L.pending;
+      callers = λ d. caller_stable z (λ _. ⊥) (world s L.ghost) W rely d (s.callers d) (λ _ _ x. x) (record { linearized = refl; made = refl; drafts = drafts_same z (world s L.ghost) W refl refl refl d; unmade = (L.callers d).unmade }) (L.callers d);
+    }
+
+  over_moved : (h : Help) (q : Place) (b : Bool) → same_place s.memory.tail q ≡ b → (s.callers c).point ≡ point.Help h (help.MoveTailOver q)
+      → Lawful z (changed s c (write s.memory Tail (cond b (OfTail (far_behind q h.last h.counts.enqs)) (OfTail s.memory.tail))) s.history (stepped (s.callers c) (point.Help h (walk h q))))
+  over_moved h q true same is = let f = known z s L c (point.Help h (help.MoveTailOver q)) is in let there = same_places s.memory.tail q same in
+      let s' : State = record { memory = record s.memory { tail = far_behind q h.last h.counts.enqs }; history = s.history; callers = s.callers } in
+      let V : Lawful z s' = went_over h q f.call.0 f.here.0 there in let g = known z s' V c (point.Help h (help.MoveTailOver q)) is in
+      (point_changes z s' V c (point.Help h (walk h q)) (walk_begins z s' V c h q g.call.0 g.here.0
+      (past_old z s' V h.ann g.here.0.0 q g.here.0.1 g.here.0.2 (λ e. let some = (V.announced.bound h.ann g.here.0.0 g.here.0.1).some in let enqs = ap (λ (y : BatchCounts). y.enqs) (g.call.0.counts (omega arith)) in let count : q.count + h.counts.enqs ≡ q.count = ap (λ (p : Place). p.count) e in absurd (omega arith))) g.call.1))
+  over_moved h q false same is = let f = known z s L c (point.Help h (help.MoveTailOver q)) is in stutters z s L c (point.Help h (walk h q)) Tail (OfTail s.memory.tail) refl
+      (walk_begins z s L c h q f.call.0 f.here.0 (past_old z s L h.ann f.here.0.0 q f.here.0.1 f.here.0.2 (λ e. differ (sym (same_place_refl s.memory.tail q e) ∙ same))) f.call.1)
+
+  pub preserves_move_tail_over : (h : Help) (q : Place) → (s.callers c).point ≡ point.Help h (help.MoveTailOver q) → Lawful z (step_at z s c (point.Help h (help.MoveTailOver q)))
+  preserves_move_tail_over h q is = over_moved h q (same_place s.memory.tail q) refl is
+
+  -- one link of the walk, to the row n
+  walk_next : (a r l n : ℕ) → n < z.rows → ((b : Bool) (x : ℕ) → joint b x ≡ s.memory.link r → x ≡ n) → Holds z (world s L.ghost) c (walks a r (suc l)) → Holds z (world s L.ghost) c (walks a n l)
+  walk_next a r l n inside same w = (
+    w.0,
+    w.1,
+    inside,
+    λ at_head. let x = w.3 at_head in let sum = x.1 in let fits = L.list.head.fits in (
+      suc x.0,
+      omega arith,
+      omega arith,
+      ap G0.path (let e : G0.head + suc x.0 ≡ suc (G0.head + x.0) = omega arith in e)
+          ∙ same (G0.chained (G0.head + x.0)) (G0.path (suc (G0.head + x.0))) (sym (L.list.rows.joined (G0.head + x.0) (omega arith) (omega arith)) ∙ ap s.memory.link x.3),
+    ),
+  )
+
+  -- where the row of a walk has no link, the announcement has left HEAD
+  walk_over : (h : Help) (r l : ℕ) → ((b : Bool) (x : ℕ) → joint b x ≡ s.memory.link r → ⊥) → Holds z (world s L.ghost) c (walks h.ann r (suc l)) → L.ghost.ann ≡ Some h.ann → ⊥
+  walk_over h r l never w at_head = let x = w.3 at_head in let sum = x.1 in let fits = L.list.head.fits in
+      never (G0.chained (G0.head + x.0)) (G0.path (suc (G0.head + x.0))) (sym (L.list.rows.joined (G0.head + x.0) (omega arith) (omega arith)) ∙ ap s.memory.link x.3)
+
+  joint_nil : (b : Bool) (x : ℕ) → joint b x ≡ Nil → ⊥
+  joint_nil true x e = cc e
+  joint_nil false x e = cc e
+
+  joint_shut : (b : Bool) (x : ℕ) → joint b x ≡ Shut → ⊥
+  joint_shut true x e = cc e
+  joint_shut false x e = cc e
+
+  link_walked : (h : Help) (m r l : ℕ) (x : LinkWord) → s.memory.link r ≡ x → AtPoint z (world s L.ghost) c (s.callers c) (point.Help h (help.LoadWalk m r l)) → Lawful z (step_with z s c (point.Help h (help.LoadWalk m r l)) (OfLink x))
+  link_walked h m r l Nil is f = stutters z s L c (back_point h h.back) (Link r) (OfLink Nil) (ap OfLink is) (goes_back z s L c h h.back (walk_over h r l (λ b x e. joint_nil b x (e ∙ is)) f.here.0) f.call.0 f.here.1.1.0 f.call.1)
+  link_walked h m r l Shut is f = stutters z s L c (back_point h h.back) (Link r) (OfLink Shut) (ap OfLink is) (goes_back z s L c h h.back (walk_over h r l (λ b x e. joint_shut b x (e ∙ is)) f.here.0) f.call.0 f.here.1.1.0 f.call.1)
+  link_walked h m r l (Single n) is f = stutters z s L c (point.Help h (walk_on m n l)) (Link r) (OfLink (Single n)) (ap OfLink is)
+      (on_walk z s L c h m n l f.call.0 (walk_next h.ann r l n (subst (LinksIn z.rows) is (L.list.links r)) (λ b x e. names b x (e ∙ is)) f.here.0) f.here.1.0 f.here.1.1.0 f.call.1) where
+        names : (b : Bool) (x : ℕ) → joint b x ≡ Single n → x ≡ n
+        names true x e = absurd (cc e)
+        names false x e = cc e
+  link_walked h m r l (Chain n) is f = stutters z s L c (point.Help h (walk_on m n l)) (Link r) (OfLink (Chain n)) (ap OfLink is)
+      (on_walk z s L c h m n l f.call.0 (walk_next h.ann r l n (subst (LinksIn z.rows) is (L.list.links r)) (λ b x e. names b x (e ∙ is)) f.here.0) f.here.1.0 f.here.1.1.0 f.call.1) where
+        names : (b : Bool) (x : ℕ) → joint b x ≡ Chain n → x ≡ n
+        names true x e = cc e
+        names false x e = absurd (cc e)
+
+  pub preserves_help_walk : (h : Help) (m r l : ℕ) → (s.callers c).point ≡ point.Help h (help.LoadWalk m r l) → Lawful z (step_at z s c (point.Help h (help.LoadWalk m r l)))
+  preserves_help_walk h m r l is = link_walked h m r l (s.memory.link r) refl (known z s L c (point.Help h (help.LoadWalk m r l)) is)
+
+  -- HEAD moves from the announcement to the new dummy
+  module _ (h : Help) (m r n : ℕ) (reading : Holds z (world s L.ghost) c (reads 4 h)) (w : Holds z (world s L.ghost) c (walks h.ann r 0)) (g : Holds z (world s L.ghost) c (gets_so_many h m)) (t : Holds z (world s L.ghost) c (tail_over h.ann))
+      (head : s.memory.head ≡ Ann h.ann n) where
+    at_head : L.ghost.ann ≡ Some h.ann
+    at_head = ann_stands z s L c h.ann n head
+
+    one_there : (x : ℕ) → L.ghost.ann ≡ Some x → x ≡ h.ann
+    one_there x e = one_some (sym e ∙ at_head)
+
+    none_waits : (x : ℕ) → L.ghost.stage x ≡ waiting → ⊥
+    none_waits x e = waits_decides e (ap L.ghost.stage (one_there x (L.announced.waits x e).0) ∙ t.1)
+
+    abbrev H : Ghost
+    H = record L.ghost { head = L.ghost.head + L.ghost.shown; rest = L.ghost.queued; shown = 0; ann = None }
+
+    abbrev memory_head : Memory
+    memory_head = record s.memory { head = Node (far_behind h.old_head r m) }
+
+    abbrev V : World
+    V = record { memory = memory_head; history = s.history; ghost = H }
+
+    same_end : L.ghost.head + L.ghost.shown + L.ghost.queued ≡ L.ghost.head + L.ghost.rest
+    same_end = let fits = L.list.head.fits in omega arith
+
+    moving : Rely z (λ _. ⊥) (world s L.ghost) V
+    moving = let e = same_end in record {
+      longer = omega arith;
+      heads = omega arith;
+      tails = le_refl _;
+      path_same = λ _ _. refl;
+      chained_same = λ _ _. refl;
+      spot_own = λ _ u _. u;
+      on_same = λ i r on. (on.1, ((λ x. on.3.0 (omega arith)), λ x. on.3.1 (omega arith)), refl);
+      link_own = λ _ _ _. refl;
+      value_own = λ _ _ _. refl;
+      value_path = λ _ _ _. refl;
+      anns = anns_moved z (world s L.ghost) V refl (λ _ _. refl) (λ _ _ _ e. e) (λ x none. absurd (some_none (sym none)));
+      more = ([], sym (append-nil s.history));
+    }
+
+    row_is : r ≡ L.ghost.path (L.ghost.head + L.ghost.shown)
+    row_is = let x = w.3 at_head in let sum = x.1 in sym x.3 ∙ ap (λ (y : ℕ). L.ghost.path (L.ghost.head + y)) (let e : x.0 ≡ L.ghost.shown = omega arith in e)
+
+    head_named : Node (far_behind h.old_head r m) ≡ Node (at z.first L.ghost.path (L.ghost.head + L.ghost.shown))
+    head_named = let count = ap (λ (p : Place). p.count) (sym (reading.old_head (omega arith)) ∙ L.announced.old_head h.ann at_head) in let shown = g.2 at_head in
+        λ i. Node (record { row = row_is i; count = (let e : h.old_head.count + m ≡ z.first + (L.ghost.head + L.ghost.shown) = omega arith in e) i })
+
+    announced' : Announced z memory_head H
+    announced' = let A = L.announced in let e = same_end in record {
+      inside = λ x none. absurd (some_none (sym none));
+      installed = λ x none. absurd (some_none (sym none));
+      old_head = λ x none. absurd (some_none (sym none));
+      waits = λ x waits. absurd (none_waits x waits);
+      bound = λ x i d. let b = A.bound x i d in let within = b.within in record { causes = b.causes; by_chain = b.by_chain; some = b.some; within = omega arith; starts = b.starts; ends = b.ends; joined = b.joined; reached = b.reached; old_dummy = b.old_dummy; covered = b.covered };
+      standing = λ x i none. absurd (some_none (sym none));
+      unknown = A.unknown;
+      recorded = A.recorded;
+      unrecorded = λ x i d none. absurd (some_none (sym t.2.1 ∙ (ap s.memory.old_tail (sym (one_there x (A.unrecorded x i d none).0)) ∙ none)));
+      lags = λ below by. let x = A.lags (omega arith) by in let same = one_position (ap L.ghost.stage (sym (one_there x.0 x.2)) ∙ x.1) t.1 in let over = t.3 at_head in let some = (A.bound h.ann t.0 t.1).some in absurd (omega arith);
+    }
+
+    head_moved : Lawful z record { memory = record s.memory { head = Node (far_behind h.old_head r m) }; history = s.history; callers = s.callers }
+    head_moved = let e = same_end in let within = L.list.tail.within in let over = t.3 at_head in let inside = (L.announced.standing h.ann t.0 at_head t.1).inside in record {
+      ghost = H;
+      history = L.history;
+      queue = L.queue ∙ ap (λ (y : ℕ). run (λ i. s.memory.value (L.ghost.path i)) (suc y) L.ghost.queued) (let f : L.ghost.head + L.ghost.shown ≡ L.ghost.head + L.ghost.shown + 0 = omega arith in f);
+      list = record {
+        rows = record {
+          joined = λ i from below. L.list.rows.joined i (omega arith) (omega arith);
+          last = ap (λ (i : ℕ). s.memory.link (L.ghost.path i)) e ∙ L.list.rows.last;
+          spots = λ i from below. L.list.rows.spots i (omega arith) (omega arith);
+          inside = λ i below. L.list.rows.inside i (omega arith);
+        };
+        item_rows = λ i above below. L.list.item_rows i (omega arith) (omega arith);
+        head = record { named = head_named; none = λ _. refl; fits = omega arith };
+        tail = record { named = L.list.tail.named; after_head = omega arith; within = omega arith; lags = λ below single. let l = L.list.tail.lags (omega arith) single in omega arith };
+        counts = let made = L.list.counts in omega arith;
+        links = L.list.links;
+      };
+      announced = announced';
+      told = λ x none. absurd (some_none (sym none));
+      pending = λ x waits. absurd (none_waits x waits);
+      callers = λ d. caller_stable z (λ _. ⊥) (world s L.ghost) V moving d (s.callers d) (λ _ _ x. x) (record { linearized = refl; made = refl; drafts = drafts_same z (world s L.ghost) V refl refl refl d; unmade = (L.callers d).unmade }) (L.callers d);
+    }
+
+  -- HEAD has another word than the announcement's, so that doesn't stand
+  not_there : (h : Help) (x : HeadWord) → s.memory.head ≡ x → is_ann x h.ann h.old_head.count ≡ false → (s.memory.notice h.ann).old_head ≡ h.old_head → L.ghost.ann ≡ Some h.ann → ⊥
+  not_there h x at_x apart old at_head = differ (sym (ap (λ (y : HeadWord). is_ann y h.ann h.old_head.count) (sym at_x ∙ (L.list.head.named ∙ ap (head_word z.first L.ghost.path L.ghost.head) at_head)) ∙
+      and_from (eqb h.ann h.ann) (eqb (z.first + L.ghost.head) h.old_head.count) (eq-eqb h.ann h.ann refl) (eq-eqb (z.first + L.ghost.head) h.old_head.count (ap (λ (p : Place). p.count) (sym (L.announced.old_head h.ann at_head) ∙ old)))) ∙ apart)
+
+  no_ann : (s' : State) (V : Lawful z s') (a : ℕ) (p : Place) → s'.memory.head ≡ Node p → V.ghost.ann ≡ Some a → ⊥
+  no_ann s' V a p node at_head = not_ann p a (z.first + V.ghost.head) (sym node ∙ (V.list.head.named ∙ ap (head_word z.first V.ghost.path V.ghost.head) at_head))
+
+  ann_found : (h : Help) (m r : ℕ) (x : HeadWord) → s.memory.head ≡ x → (b : Bool) → is_ann x h.ann h.old_head.count ≡ b → (s.callers c).point ≡ point.Help h (help.MoveHead m r)
+      → Lawful z (changed s c (write s.memory Head (cond b (OfHead (Node (far_behind h.old_head r m))) (OfHead x))) s.history (stepped (s.callers c) (back_point h h.back)))
+  ann_found h m r x at_x false apart is = let f = known z s L c (point.Help h (help.MoveHead m r)) is in stutters z s L c (back_point h h.back) Head (OfHead x) (ap OfHead at_x) (goes_back z s L c h h.back (λ at_head. not_there h x at_x apart (f.call.0.old_head (omega arith)) at_head) f.call.0 f.here.1.1.0 f.call.1)
+  ann_found h m r (Node p) at_x true e is = absurd (cc e)
+  ann_found h m r (Ann y n) at_x true e is = let f = known z s L c (point.Help h (help.MoveHead m r)) is in let both = and_parts (eqb y h.ann) (eqb n h.old_head.count) e in
+      let s' : State = record { memory = record s.memory { head = Node (far_behind h.old_head r m) }; history = s.history; callers = s.callers } in
+      let V : Lawful z s' = head_moved h m r n f.call.0 f.here.0 f.here.1.0 f.here.1.1.0 (at_x ∙ ap (λ (b : ℕ). Ann b n) (eqb-true y h.ann both.0)) in let g = known z s' V c (point.Help h (help.MoveHead m r)) is in
+      (point_changes z s' V c (back_point h h.back) (goes_back z s' V c h h.back (no_ann s' V h.ann (far_behind h.old_head r m) refl) g.call.0 g.here.1.1.0 g.call.1))
+
+  pub preserves_move_head_ann : (h : Help) (m r : ℕ) → (s.callers c).point ≡ point.Help h (help.MoveHead m r) → Lawful z (step_at z s c (point.Help h (help.MoveHead m r)))
+  preserves_move_head_ann h m r is = ann_found h m r s.memory.head refl (is_ann s.memory.head h.ann h.old_head.count) refl is

@@ -1,0 +1,376 @@
+-- A step keeps the lane lawful where the parts are shown of the new world; a quiet step changes its caller's turn alone.
+use Rattle.std.proofs.Common.{◌≡◌, ◌≢◌, ◌⊎◌, inl, inr, ℕ, suc, ◌+◌, ◌<◌, ◌≤◌, eqb, Bool, true, false, cond, List, [], ◌∷◌, ◌++◌, length, sym, refl, ap, ◌∙◌, subst, arith, le_refl, length-append, Option, Some, IsSome}
+use Rattle.std.proofs.lemmas.List.{append-nil}
+use Rattle.std.proofs.lemmas.Bool.{eqb-true, and_parts}
+use Rattle.bq_model.specs.declared.op.Op.{Op}
+use Rattle.bq_model.specs.declared.op.Answer.{Answer}
+use Rattle.bq_model.specs.declared.group.Group.{Group}
+use Rattle.bq_model.specs.Replay.{answers_from}
+use Rattle.bq_model.specs.History.{operations, last_queue}
+use Rattle.bq_model.specs.Own.{mine}
+use Rattle.bq_model.specs.Proper.{IsProper}
+use Rattle.word_rows.specs.declared.place.Place.{Place}
+use Rattle.word_rows.specs.declared.location.AnnField.TheVariants as field
+use Rattle.word_rows.specs.declared.location.Location.{Location}
+use Rattle.word_rows.specs.declared.location.Location.TheVariants.{Head, Tail, Link, Value, Mark, NodeHazard, AnnHazard, AnnWord}
+use Rattle.word_rows.specs.declared.content.Content.{Content}
+use Rattle.core_model.specs.declared.point.Notice.{Notice}
+use Rattle.core_model.specs.declared.point.Back.{Back}
+use Rattle.core_model.specs.declared.point.Back.TheVariants as back
+use Rattle.core_model.specs.declared.point.Point.{Point}
+use Rattle.core_model.specs.declared.point.Point.TheVariants.{Idle}
+use Rattle.core_model.specs.declared.point.Point.TheVariants as point
+use Rattle.core_model.specs.Functions.{put}
+use Rattle.core_model.specs.LaneSizes.{LaneSizes}
+use Rattle.core_model.specs.Batches.{owner_of}
+use Rattle.core_model.specs.State.{Memory, Caller, Command, command, State, read, write, own_group}
+use Rattle.core_model.specs.Act.{same_place, location, changes, effect}
+use Rattle.core_model.specs.Fact.{is_op}
+use Rattle.core_model.specs.Help.{back_facts}
+use Rattle.core_model.specs.Step.{stepped, stepped_with, ended, act, target, linearizes, group_owner, history_after, course, followed, step_at}
+use Rattle.core_model.specs.Facts.{Holds, Each, AtPoint}
+use Rattle.core_model.specs.declared.act.Act.{Act}
+use Rattle.core_model.specs.declared.act.Act.TheVariants.{Load, Store, Exchange}
+use Rattle.core_model.specs.declared.course.Course.{Course}
+use Rattle.core_model.specs.declared.course.Course.TheVariants.{GoesOn}
+use Rattle.core_model.specs.Ghost.{Stage, waiting, Ghost, World}
+use Rattle.core_model.specs.Kept.{Stands, Kept}
+use Rattle.core_model.specs.Lawful.{shown_queue, InOrder, Announced, IsOwn, HelpsOwn, Told, IsTold, Pending, Waits, Unmade, OwnGroups, Allowed, OfCaller, Lawful}
+use Rattle.core_model.proofs.Puts.{put_here, put_else, put_all, put_same}
+use Rattle.core_model.proofs.Groups.{mine-push_own, length-operations-push, enqueues-push, many-push, proper-push}
+use Rattle.core_model.proofs.Stable.{world, anns_same, Drafts, Rely, knows_stable}
+
+-- the state after a step of caller c
+abbrev pub changed : State → ℕ → Memory → List Group → Caller → State
+changed s c memory h k = record { memory = memory; history = h; callers = put s.callers c k }
+
+-- what was found, stored again
+pub write_read : (m : Memory) (l : Location) → write m l (read m l) ≡ m
+write_read m Head = refl
+write_read m Tail = refl
+write_read m (Link r) = λ i. record m { link = put_same m.link r i }
+write_read m (Value r) = λ i. record m { value = put_same m.value r i }
+write_read m (Mark r) = refl
+write_read m (NodeHazard c) = refl
+write_read m (AnnHazard c) = refl
+write_read m (AnnWord a field.OldTail) = λ i. record m { old_tail = put_same m.old_tail a i }
+write_read m (AnnWord a field.OldHead) = λ i. record m { notice = put_same m.notice a i }
+write_read m (AnnWord a field.First) = λ i. record m { notice = put_same m.notice a i }
+write_read m (AnnWord a field.Last) = λ i. record m { notice = put_same m.notice a i }
+write_read m (AnnWord a field.Counts) = λ i. record m { notice = put_same m.notice a i }
+write_read m (AnnWord a field.BatchNo) = λ i. record m { notice = put_same m.notice a i }
+write_read m (AnnWord a field.Order0) = λ i. record m { notice = put_same m.notice a i }
+write_read m (AnnWord a field.Order1) = λ i. record m { notice = put_same m.notice a i }
+write_read m (AnnWord a field.Order2) = λ i. record m { notice = put_same m.notice a i }
+write_read m (AnnWord a field.Order3) = λ i. record m { notice = put_same m.notice a i }
+
+-- a load, or an exchange that finds something else, leaves the words
+pub leaves : (m : Memory) (a : Act) (x : Content) → read m (location a) ≡ x → changes a x ≡ false → write m (location a) (effect a x) ≡ m
+leaves m (Load l) x is lost = ap (write m l) (sym is) ∙ write_read m l
+leaves m (Store l y) x is lost = absurd (cc lost)
+leaves m (Exchange l old new) x is lost = ap (λ (b : Bool). write m l (cond b new x)) lost ∙ (ap (write m l) (sym is) ∙ write_read m l)
+
+pub same_places : (p q : Place) → same_place p q ≡ true → p ≡ q
+same_places p q e = let both = and_parts (eqb p.row q.row) (eqb p.count q.count) e in λ i. record { row = eqb-true p.row q.row both.0 i; count = eqb-true p.count q.count both.1 i }
+
+-- a step that leaves all positions, rows and values, and may add to the history
+pub rely_history : (z : LaneSizes) (s : State) (g : Ghost) (linearized : ℕ → Bool) (h : List Group) → (new : List Group) × (h ≡ s.history ++ new)
+    → Rely z (λ _. ⊥) (world s g) record { memory = s.memory; history = h; ghost = record g { linearized = linearized } }
+rely_history z s g linearized h more = record {
+  longer = le_refl _;
+  heads = le_refl _;
+  tails = le_refl _;
+  path_same = λ _ _. refl;
+  chained_same = λ _ _. refl;
+  spot_own = λ _ u _. u;
+  on_same = λ i r on. (on.1, on.3, refl);
+  link_own = λ _ _ _. refl;
+  value_own = λ _ _ _. refl;
+  value_path = λ _ _ _. refl;
+  anns = anns_same z (world s g) record { memory = s.memory; history = h; ghost = record g { linearized = linearized } } refl refl refl refl refl refl;
+  more = more;
+}
+
+-- no announcement of caller c stands in HEAD
+abbrev pub Plain : LaneSizes → Ghost → ℕ → Type 0
+Plain z g c = (a : ℕ) → g.ann ≡ Some a → owner_of z a ≢ c
+
+-- nor does any draft of it change
+pub drafts_same : (z : LaneSizes) (a b : World) → b.ghost.stage ≡ a.ghost.stage → b.memory.notice ≡ a.memory.notice → b.memory.old_tail ≡ a.memory.old_tail → (d : ℕ) → Drafts z a b d
+drafts_same z a b stage notice old d x _ e = (ap (λ (f : ℕ → Stage). f x) stage ∙ e, ap (λ (f : ℕ → Notice). f x) notice, ap (λ (f : ℕ → Option Place). f x) old)
+
+-- what a caller has made stays the same as its command ends
+pub allowed_end : (z : LaneSizes) (c : ℕ) (k : Caller) → Allowed z k.mine k.ops k.taken k.made → Allowed z (k.mine ++ own_group c k ∷ []) [] k.taken k.made
+allowed_end z c k A = let within = A.within in let rows = A.rows in let made = length-operations-push k.mine (own_group c k) in let taken = enqueues-push k.mine (own_group c k) in let anns = A.anns in let many = many-push k.mine (own_group c k) in record {
+  within = omega arith;
+  rows = omega arith;
+  has_rows = A.has_rows;
+  anns = omega arith;
+  has_anns = A.has_anns;
+}
+
+-- what is kept of the last ended command, while the next one goes on
+pub kept_stepped : (h : List Group) (c : ℕ) (k : Caller) (t : Point) (vs : List ℕ) → Kept h c k → Kept h c (stepped_with k t vs)
+kept_stepped h c k t vs x = record { none = x.none; done = λ is. let y = x.done is in record { earlier = y.earlier; ops = y.ops; last = y.last; stands = y.stands; timely = y.timely } }
+
+-- what a step leaves of a caller d that isn't its own
+pub record Apart (z : LaneSizes) (a b : World) (d : ℕ) (k : Caller) : Type 0 where
+  pub linearized : b.ghost.linearized d ≡ a.ghost.linearized d
+  pub made : mine b.history d ≡ mine a.history d
+  pub drafts : Drafts z a b d
+  pub unmade : Unmade z b.ghost.stage d k
+
+pub caller_stable : (z : LaneSizes) (Touch : ℕ → Type 0) (a b : World) → Rely z Touch a b → (d : ℕ) (k : Caller) → ((r : ℕ) → z.home r ≡ d → ¬ (Touch r)) → Apart z a b d k → OfCaller z a d k → OfCaller z b d k
+caller_stable z Touch a b g d k off o old = record {
+  unmade = o.unmade;
+  own_groups = o.made ∙ (old.own_groups ∙ ap (λ (b : Bool). k.mine ++ cond b (own_group d k ∷ []) []) (sym o.linearized));
+  allowed = old.allowed;
+  knows = knows_stable z Touch a b g d off o.linearized o.drafts k old.knows;
+}
+
+module _ (z : LaneSizes) (s : State) (L : Lawful z s) (c : ℕ) where
+  abbrev here : World
+  here = world s L.ghost
+
+  abbrev me : Caller
+  me = s.callers c
+
+  abbrev own : Group
+  own = own_group c (s.callers c)
+
+  -- what the caller knows at its turn t
+  pub known : (t : Point) → (s.callers c).point ≡ t → AtPoint z (world s L.ghost) c (s.callers c) t
+  known t is = subst (λ (u : Point). AtPoint z here c me u) is (L.callers c).knows.at_point
+
+  -- who helps its own announcement, or none of its announcements stands
+  back_plain : (m : Command) (a : ℕ) (b : Back) → Each z (world s L.ghost) c (back_facts c m a b) → Plain z L.ghost c ⊎ IsOwn b
+  back_plain k a back.Own f = inr tt
+  back_plain k a (back.Enqueue x) f = inl f.0.1
+  back_plain k a back.Dequeue f = inl f.0.1
+  back_plain k a (back.Batch d) f = inl f.0.1
+
+  pub plain_or_own : (k : Caller) (t : Point) → AtPoint z (world s L.ghost) c k t → Plain z L.ghost c ⊎ HelpsOwn t
+  plain_or_own k Idle f = inl f.call.0.1
+  plain_or_own k (point.Enqueue x p) f = inl f.call.0.1
+  plain_or_own k (point.Dequeue p) f = inl f.call.0.1
+  plain_or_own k (point.Batch d p) f = inl f.call.0.1
+  plain_or_own k (point.Help h p) f = back_plain (command k) h.ann h.back f.call.1
+  plain_or_own k (point.Answer p) f = inl f.call.0.1
+
+  -- an announcement goes on to stand, and to wait, as the caller c goes on
+  pub told_plain : (memory : Memory) (g : Ghost) (k : Caller) → Plain z g c → ((a : ℕ) → IsTold z memory g s.callers a) → (a : ℕ) → IsTold z memory g (put s.callers c k) a
+  told_plain memory g k plain old a at_head = subst (Told memory.value g.path (g.stage a) (memory.notice a) (owner_of z a)) (sym (put_else s.callers c k (owner_of z a) (plain a at_head))) (old a at_head)
+
+  pub told_on : (memory : Memory) (g : Ghost) (t : Point) → Plain z g c ⊎ HelpsOwn t → ((a : ℕ) → IsTold z memory g s.callers a) → (a : ℕ) → IsTold z memory g (put s.callers c (stepped (s.callers c) t)) a
+  told_on memory g t (inl plain) old a at_head = told_plain memory g (stepped me t) plain old a at_head
+  told_on memory g t (inr own) old a at_head = put_all s.callers c (stepped me t) (λ d k. owner_of z a ≡ d → Told memory.value g.path (g.stage a) (memory.notice a) (owner_of z a) k)
+      (λ at. let p = subst (λ (d : ℕ). Told memory.value g.path (g.stage a) (memory.notice a) (owner_of z a) (s.callers d)) at (old a at_head) in record { describes = p.describes; helps = own; values = p.values })
+      (λ d _ at. subst (λ (d : ℕ). Told memory.value g.path (g.stage a) (memory.notice a) (owner_of z a) (s.callers d)) at (old a at_head)) (owner_of z a) refl
+
+  -- of an announcement that waits the turn of its owner says nothing
+  pub waits_plain : (memory : Memory) (g : Ghost) (k : Caller) → Plain z g c → ((a : ℕ) → g.stage a ≡ waiting → g.ann ≡ Some a) → ((a : ℕ) → Waits z memory g s.callers a) → (a : ℕ) → Waits z memory g (put s.callers c k) a
+  waits_plain memory g k plain there old a waits = subst (Pending z memory.link memory.value g.spot g.chain (g.linearized (owner_of z a)) (memory.notice a) (owner_of z a)) (sym (put_else s.callers c k (owner_of z a) (plain a (there a waits)))) (old a waits)
+
+  pub waits_on : (memory : Memory) (g : Ghost) (t : Point) → ((a : ℕ) → Waits z memory g s.callers a) → (a : ℕ) → Waits z memory g (put s.callers c (stepped (s.callers c) t)) a
+  waits_on memory g t old a waits = put_all s.callers c (stepped me t) (λ d k. owner_of z a ≡ d → Pending z memory.link memory.value g.spot g.chain (g.linearized (owner_of z a)) (memory.notice a) (owner_of z a) k)
+      (λ at. let p = subst (λ (d : ℕ). Pending z memory.link memory.value g.spot g.chain (g.linearized (owner_of z a)) (memory.notice a) (owner_of z a) (s.callers d)) at (old a waits) in record {
+        known = p.known;
+        not_yet = p.not_yet;
+        some = p.some;
+        starts = p.starts;
+        ends = p.ends;
+        homes = p.homes;
+        inside = p.inside;
+        items = p.items;
+        unlinked = p.unlinked;
+        taken = p.taken;
+        apart = p.apart;
+        joined = p.joined;
+        last = p.last;
+        values = p.values;
+      })
+      (λ d _ at. subst (λ (d : ℕ). Pending z memory.link memory.value g.spot g.chain (g.linearized (owner_of z a)) (memory.notice a) (owner_of z a) (s.callers d)) at (old a waits)) (owner_of z a) refl
+
+  pub waits_there : (a : ℕ) → L.ghost.stage a ≡ waiting → L.ghost.ann ≡ Some a
+  waits_there a waits = (L.announced.waits a waits).0
+
+  -- THE step: each part is shown in the new world, and all other callers go on knowing what they knew
+  pub preserves : (memory : Memory) (h : List Group) (g : Ghost) (k : Caller) (Touch : ℕ → Type 0) → ((r : ℕ) → Touch r → z.home r ≡ c)
+      → Rely z Touch (world s L.ghost) record { memory = memory; history = h; ghost = g }
+      → ((d : ℕ) → d ≢ c → Apart z (world s L.ghost) record { memory = memory; history = h; ghost = g } d (s.callers d))
+      → IsProper z.callers h
+      → last_queue h ≡ shown_queue memory.value g
+      → InOrder z memory h g
+      → Announced z memory g
+      → ((a : ℕ) → IsTold z memory g (put s.callers c k) a)
+      → ((a : ℕ) → Waits z memory g (put s.callers c k) a)
+      → OfCaller z record { memory = memory; history = h; ghost = g } c k
+      → Lawful z (changed s c memory h k)
+  preserves memory h g k Touch homes rely others proper queue list announced told pending mine' = let w : World = record { memory = memory; history = h; ghost = g } in record {
+    ghost = g;
+    history = proper;
+    queue = queue;
+    list = list;
+    announced = announced;
+    told = told;
+    pending = pending;
+    callers = put_all s.callers c k (λ d y. OfCaller z w d y) mine' (λ d apart. caller_stable z Touch here w rely d (s.callers d) (λ r at touch. apart (sym at ∙ homes r touch)) (others d apart) (L.callers d));
+  }
+
+  -- the caller's turn alone changes
+  pub point_changes : (t : Point) → AtPoint z (world s L.ghost) c (stepped (s.callers c) t) t → Lawful z record { memory = s.memory; history = s.history; callers = put s.callers c (stepped (s.callers c) t) }
+  point_changes t knows = record {
+    ghost = L.ghost;
+    history = L.history;
+    queue = L.queue;
+    list = L.list;
+    announced = L.announced;
+    told = told_on s.memory L.ghost t (plain_or_own (stepped me t) t knows) L.told;
+    pending = waits_on s.memory L.ghost t L.pending;
+    callers = put_all s.callers c (stepped me t) (λ d y. OfCaller z here d y) (let o = L.callers c in let f = o.knows in record {
+      unmade = o.unmade;
+      own_groups = o.own_groups;
+      allowed = o.allowed;
+      knows = record { unused = f.unused; started = f.started; last = kept_stepped s.history c me t me.values f.last; at_point = knows };
+    }) (λ d _. L.callers d);
+  }
+
+  -- the same as a step that finds x in a word and leaves it
+  pub stutters : (t : Point) (l : Location) (x : Content) → read s.memory l ≡ x → AtPoint z (world s L.ghost) c (stepped (s.callers c) t) t
+      → Lawful z (changed s c (write s.memory l x) s.history (stepped (s.callers c) t))
+  stutters t l x is knows = subst (λ (m : Memory). Lawful z (changed s c m s.history (stepped me t))) (sym (ap (write s.memory l) (sym is) ∙ write_read s.memory l)) (point_changes t knows)
+
+  -- a load, or an exchange that finds something else, after which the caller goes on
+  pub stutters_at : (t u : Point) → changes (act t) (read s.memory (target t)) ≡ false → linearizes t (read s.memory (target t)) ≡ false → course t (read s.memory (target t)) ≡ GoesOn u
+      → AtPoint z (world s L.ghost) c (stepped (s.callers c) u) u → Lawful z (step_at z s c t)
+  stutters_at t u lost adds goes knows = let x : Content = read s.memory (target t) in let group : Group = own_group (group_owner z c t) (s.callers (group_owner z c t)) in
+      subst (λ (y : Memory × List Group × Course). Lawful z record { memory = y.0; history = y.1; callers = put s.callers c (followed (length y.1) c me y.2) })
+      (λ i. (sym (leaves s.memory (act t) x refl lost) i, sym (ap (λ (b : Bool). history_after b s.history group) adds) i, sym goes i)) (point_changes u knows)
+
+  -- the same, where the values that the caller has read change too
+  pub point_changes_with : (t : Point) (vs : List ℕ) → Plain z L.ghost c → AtPoint z (world s L.ghost) c (stepped_with (s.callers c) t vs) t
+      → Lawful z record { memory = s.memory; history = s.history; callers = put s.callers c (stepped_with (s.callers c) t vs) }
+  point_changes_with t vs plain knows = record {
+    ghost = L.ghost;
+    history = L.history;
+    queue = L.queue;
+    list = L.list;
+    announced = L.announced;
+    told = told_plain s.memory L.ghost (stepped_with me t vs) plain L.told;
+    pending = waits_plain s.memory L.ghost (stepped_with me t vs) plain waits_there L.pending;
+    callers = put_all s.callers c (stepped_with me t vs) (λ d y. OfCaller z here d y) (let o = L.callers c in let f = o.knows in record {
+      unmade = o.unmade;
+      own_groups = o.own_groups;
+      allowed = o.allowed;
+      knows = record { unused = f.unused; started = f.started; last = kept_stepped s.history c me t vs f.last; at_point = knows };
+    }) (λ d _. L.callers d);
+  }
+
+  -- the running command, which has landed, ends
+  pub finishes : (xs : List Answer) → L.ghost.linearized c ≡ true → Plain z L.ghost c
+      → (st : Stands s.history (own_group c (s.callers c)) xs) → (s.callers c).started_at ≤ length st.before
+      → Lawful z record { memory = s.memory; history = s.history; callers = put s.callers c (ended (length s.history) c (s.callers c) xs) }
+  finishes xs on plain st from = record {
+    ghost = G;
+    history = L.history;
+    queue = L.queue;
+    list = L.list;
+    announced = L.announced;
+    told = told_plain s.memory G k plain L.told;
+    pending = waits_plain s.memory G k plain waits_there (λ a waits. let p = L.pending a waits in record {
+      known = p.known;
+      not_yet = put_else L.ghost.linearized c false (owner_of z a) (plain a (waits_there a waits)) ∙ p.not_yet;
+      some = p.some;
+      starts = p.starts;
+      ends = p.ends;
+      homes = p.homes;
+      inside = p.inside;
+      items = p.items;
+      unlinked = p.unlinked;
+      taken = p.taken;
+      apart = p.apart;
+      joined = p.joined;
+      last = p.last;
+      values = p.values;
+    });
+    callers = put_all s.callers c k (λ d y. OfCaller z W d y) (record {
+      unmade = (L.callers c).unmade;
+      own_groups = (L.callers c).own_groups ∙ (ap (λ (b : Bool). me.mine ++ cond b (own ∷ []) []) on
+          ∙ (sym (append-nil _) ∙ ap (λ (b : Bool). (me.mine ++ own ∷ []) ++ cond b (own_group c k ∷ []) []) (sym (put_here L.ghost.linearized c false))));
+      allowed = allowed_end z c me (L.callers c).allowed;
+      knows = record {
+        unused = λ i from below at. let o = (L.callers c).knows.unused i from below at in record { at_home = o.at_home; inside = o.inside; is_item = o.is_item; unlinked = o.unlinked; nil = o.nil };
+        started = (L.callers c).knows.started;
+        last = kept';
+        at_point = record { call = ((put_here L.ghost.linearized c false, plain), tt); here = ((refl, λ _. ended_somewhere), tt) };
+      };
+    }) (λ d apart. caller_stable z (λ _. ⊥) here W rely d (s.callers d) (λ _ _ x. x)
+        (record { linearized = put_else L.ghost.linearized c false d apart; made = refl; drafts = drafts_same z here W refl refl refl d; unmade = (L.callers d).unmade }) (L.callers d));
+  } where
+    k : Caller
+    k = ended (length s.history) c me xs
+
+    G : Ghost
+    G = record L.ghost { linearized = put L.ghost.linearized c false }
+
+    W : World
+    W = world s G
+
+    rely : Rely z (λ _. ⊥) here W
+    rely = rely_history z s L.ghost (put L.ghost.linearized c false) s.history ([], sym (append-nil s.history))
+
+    ended_somewhere : IsSome (Some (length s.history))
+    ended_somewhere = refl
+
+    before_end : (end : ℕ) → Some (length s.history) ≡ Some end → (me.started_at ≤ length st.before) × (length st.before < end)
+    before_end end e = let all : length s.history ≡ end = cc e in
+        let total = ap length st.splits ∙ (length-append (st.before ++ own ∷ []) st.behind ∙ ap (λ (n : ℕ). n + length st.behind) (length-append st.before (own ∷ []))) in (from, omega arith)
+
+    kept' : Kept s.history c k
+    kept' = record { none = λ no. absurd (no refl); done = λ _. record { earlier = me.mine; ops = me.ops; last = refl; stands = st; timely = before_end } }
+
+  -- the command of c lands, whoever makes the step, and with it grows the history
+  module _ (off : L.ghost.linearized c ≡ false) where
+    own_mine : mine s.history c ≡ (s.callers c).mine
+    own_mine = (L.callers c).own_groups ∙ (ap (λ (b : Bool). me.mine ++ cond b (own ∷ []) []) off ∙ append-nil me.mine)
+
+    pub joins_proper : c < z.callers → (s.callers c).ops ≢ [] → IsProper z.callers (s.history ++ own_group c (s.callers c) ∷ [])
+    joins_proper known some = proper-push z.callers s.history own known some (ap length (sym own_mine)) L.history
+
+    pub joins_mine : mine (s.history ++ own_group c (s.callers c) ∷ []) c ≡ (s.callers c).mine ++ own_group c (s.callers c) ∷ []
+    joins_mine = mine-push_own s.history own ∙ ap (λ (gs : List Group). gs ++ own ∷ []) own_mine
+
+  -- the same of a single operation
+  module _ (op : Op) (off : L.ghost.linearized c ≡ false) (runs : Holds z (world s L.ghost) c (is_op (s.callers c).ops op)) where
+    pub linearizes_proper : IsProper z.callers (s.history ++ own_group c (s.callers c) ∷ [])
+    linearizes_proper = joins_proper off runs.1 (λ none. some (sym runs.0 ∙ none)) where
+      some : op ∷ [] ≢ []
+      some e = cc e
+
+    pub linearizes_operations : length (operations (s.history ++ own_group c (s.callers c) ∷ [])) ≡ suc (length (operations s.history))
+    linearizes_operations = length-operations-push s.history own ∙ (ap (λ (ops : List Op). length (operations s.history) + length ops) runs.0 ∙ (let one : length (operations s.history) + 1 ≡ suc (length (operations s.history)) = omega arith in one))
+
+    pub linearizes_mine : mine (s.history ++ own_group c (s.callers c) ∷ []) c ≡ (s.callers c).mine ++ own_group c (s.callers c) ∷ []
+    linearizes_mine = joins_mine off
+
+    -- where the command ends with that step
+    module _ (xs : List Answer) (right : xs ≡ answers_from (last_queue s.history) (op ∷ [])) where
+      abbrev last : Caller
+      last = ended (length (s.history ++ own_group c (s.callers c) ∷ [])) c (s.callers c) xs
+
+      pub linearizes_groups : OwnGroups c (s.history ++ own_group c (s.callers c) ∷ []) last (L.ghost.linearized c)
+      linearizes_groups = linearizes_mine ∙ (sym (append-nil _) ∙ ap (λ (b : Bool). (me.mine ++ own ∷ []) ++ cond b (own_group c last ∷ []) []) (sym off))
+
+      pub linearizes_kept : Kept (s.history ++ own_group c (s.callers c) ∷ []) c last
+      linearizes_kept = record {
+        none = λ no. absurd (no refl);
+        done = λ _. record {
+          earlier = me.mine;
+          ops = me.ops;
+          last = refl;
+          timely = before_end;
+          stands = record { before = s.history; behind = []; splits = sym (append-nil (s.history ++ own ∷ [])); right = right ∙ ap (answers_from (last_queue s.history)) (sym runs.0) };
+        };
+      } where
+        before_end : (end : ℕ) → Some (length (s.history ++ own ∷ [])) ≡ Some end → (me.started_at ≤ length s.history) × (length s.history < end)
+        before_end end e = let all : length (s.history ++ own ∷ []) ≡ end = cc e in let total = length-append s.history (own ∷ []) in ((L.callers c).knows.started, omega arith)

@@ -1,0 +1,370 @@
+-- What callers know stays true while the lane goes on.
+use Rattle.std.proofs.Common.{◌≡◌, ◌⊎◌, ℕ, suc, ◌+◌, ◌-◌, ◌<◌, ◌≤◌, true, false, List, [], ◌∷◌, ◌++◌, length, take, sym, ap, ◌∙◌, subst, arith, append_assoc, length-append, inl, ⊎_elim, Option, Some, None}
+use Rattle.bq_model.specs.declared.op.Answer.{Answer}
+use Rattle.bq_model.specs.declared.group.Group.{Group}
+use Rattle.bq_model.specs.History.{last_queue}
+use Rattle.excess_count.specs.Got.{values_from}
+use Rattle.word_rows.specs.declared.place.Place.{Place}
+use Rattle.core_model.specs.declared.point.Notice.{Notice}
+use Rattle.core_model.specs.Functions.{run}
+use Rattle.core_model.specs.LaneSizes.{LaneSizes, item}
+use Rattle.core_model.specs.Batches.{owner_of, gets}
+use Rattle.core_model.specs.State.{Caller, State}
+use Rattle.core_model.specs.declared.point.Help.{Help}
+use Rattle.core_model.specs.declared.point.HelpPoint.{HelpPoint}
+use Rattle.core_model.specs.declared.point.HelpPoint.TheVariants as help
+use Rattle.core_model.specs.declared.point.Point.{Point}
+use Rattle.core_model.specs.Help as helping
+use Rattle.core_model.specs.Fact.{Fact, owns, holds_item, unused_rows, linked, head_seen, tail_seen, tail_past, next_is, by_single, next_value, linearized_is, is_op, answered, since, kept, rests, drafts, fills, enqueues, goes_on, written, head_written, reads, stands_at, before_end, is_old_tail, old_tail_is, tail_over, gets_so_many, walks, takes_effect, has_read, is_reading}
+use Rattle.core_model.specs.Facts.{AllAgree, stored_before, Linearized, Owns, Holds, Each, call_knows, knows, AtPoint, Knows}
+use Rattle.core_model.specs.Ghost.{Stage, unused, waiting, decided, Ghost, World, positions, Unlinked, LinkAt, On, Installed}
+use Rattle.core_model.specs.Kept.{Stands, numbered, Kept}
+use Rattle.core_model.proofs.Puts.{run_same}
+
+-- a state with what its words don't say
+abbrev pub world : State → Ghost → World
+world s g = record { memory = s.memory; history = s.history; ghost = g }
+
+-- the stages differ
+pub unused_waits : {s : Stage} → s ≡ unused → s ≡ waiting → ⊥
+unused_waits e f = never (sym e ∙ f) where
+  never : unused ≡ waiting → ⊥
+  never e = cc e
+
+pub unused_decides : {s : Stage} {i : ℕ} → s ≡ unused → s ≡ decided i → ⊥
+unused_decides {i = i} e f = never (sym e ∙ f) where
+  never : unused ≡ decided i → ⊥
+  never e = cc e
+
+pub waits_decides : {s : Stage} {i : ℕ} → s ≡ waiting → s ≡ decided i → ⊥
+waits_decides {i = i} e f = never (sym e ∙ f) where
+  never : waiting ≡ decided i → ⊥
+  never e = cc e
+
+pub one_position : {s : Stage} {i j : ℕ} → s ≡ decided i → s ≡ decided j → i ≡ j
+one_position {i = i} {j = j} e f = same (sym e ∙ f) where
+  same : decided i ≡ decided j → i ≡ j
+  same e = cc e
+
+pub one_some : {A : Type 0} {i j : A} → Some i ≡ Some j → i ≡ j
+one_some e = cc e
+
+pub some_none : {A : Type 0} {i : A} → Some i ≡ None → ⊥
+some_none e = cc e
+
+-- Announcements go on, from waiting to decided; one is decided as rows are linked and the command of its owner lands.
+pub record AnnRely (z : LaneSizes) (a b : World) : Type 0 where
+  pub installed : (x : ℕ) → Installed a x → Installed b x
+  pub waited : (x : ℕ) → b.ghost.stage x ≡ waiting → Installed a x → a.ghost.stage x ≡ waiting
+  pub done : (x i : ℕ) → a.ghost.stage x ≡ decided i → b.ghost.stage x ≡ decided i
+  pub decides : (x i : ℕ) → Installed a x → b.ghost.stage x ≡ decided i
+      → (a.ghost.stage x ≡ decided i) ⊎ ((positions a.ghost < positions b.ghost) × (a.ghost.linearized (owner_of z x) ≡ false) × (b.ghost.linearized (owner_of z x) ≡ true))
+  pub notice_same : (x : ℕ) → Installed a x → b.memory.notice x ≡ a.memory.notice x
+  pub old_same : (x : ℕ) (q : Place) → Installed a x → a.memory.old_tail x ≡ Some q → b.memory.old_tail x ≡ Some q
+  -- what stands in HEAD stood there, or is installed by the step
+  pub stood : (x : ℕ) → b.ghost.ann ≡ Some x
+      → ((a.ghost.ann ≡ Some x) × (b.ghost.head ≡ a.ghost.head) × ((i : ℕ) → a.ghost.stage x ≡ decided i → b.ghost.shown ≡ a.ghost.shown))
+      ⊎ ((a.ghost.stage x ≡ unused) × (b.ghost.stage x ≡ waiting))
+
+-- the stages are the same, and what stands stood
+pub anns_moved : (z : LaneSizes) (a b : World) → b.ghost.stage ≡ a.ghost.stage → ((x : ℕ) → Installed a x → b.memory.notice x ≡ a.memory.notice x)
+    → ((x : ℕ) (q : Place) → Installed a x → a.memory.old_tail x ≡ Some q → b.memory.old_tail x ≡ Some q)
+    → ((x : ℕ) → b.ghost.ann ≡ Some x → (a.ghost.ann ≡ Some x) × (b.ghost.head ≡ a.ghost.head) × (b.ghost.shown ≡ a.ghost.shown)) → AnnRely z a b
+anns_moved z a b stage notice old stood = record {
+  installed = λ x i e. i (sym (ap (λ (f : ℕ → Stage). f x) stage) ∙ e);
+  waited = λ x e _. sym (ap (λ (f : ℕ → Stage). f x) stage) ∙ e;
+  done = λ x i e. ap (λ (f : ℕ → Stage). f x) stage ∙ e;
+  decides = λ x i _ e. inl (sym (ap (λ (f : ℕ → Stage). f x) stage) ∙ e);
+  notice_same = notice;
+  old_same = old;
+  stood = λ x e. let s = stood x e in inl (s.0, s.1, λ _ _. s.2);
+}
+
+pub anns_same : (z : LaneSizes) (a b : World) → b.ghost.stage ≡ a.ghost.stage → b.memory.notice ≡ a.memory.notice → b.memory.old_tail ≡ a.memory.old_tail
+    → b.ghost.ann ≡ a.ghost.ann → b.ghost.head ≡ a.ghost.head → b.ghost.shown ≡ a.ghost.shown → AnnRely z a b
+anns_same z a b stage notice old ann head shown = anns_moved z a b stage (λ x _. ap (λ (f : ℕ → Notice). f x) notice) (λ x q _ e. ap (λ (f : ℕ → Option Place). f x) old ∙ e) (λ x e. (sym ann ∙ e, head, shown))
+
+-- what caller d wrote of an own announcement that it didn't install
+abbrev pub Drafts : LaneSizes → World → World → ℕ → Type 0
+Drafts z a b d = (x : ℕ) → owner_of z x ≡ d → a.ghost.stage x ≡ unused
+    → (b.ghost.stage x ≡ unused) × (b.memory.notice x ≡ a.memory.notice x) × (b.memory.old_tail x ≡ a.memory.old_tail x)
+
+-- The world a goes on as b, by a step that touches only those unlinked rows for which Touch holds.
+pub record Rely (z : LaneSizes) (Touch : ℕ → Type 0) (a b : World) : Type 0 where
+  pub longer : positions a.ghost ≤ positions b.ghost
+  pub heads : a.ghost.head ≤ b.ghost.head
+  pub tails : a.ghost.tail ≤ b.ghost.tail
+  pub path_same : (i : ℕ) → i < positions a.ghost → b.ghost.path i ≡ a.ghost.path i
+  pub chained_same : (i : ℕ) → suc i < positions a.ghost → b.ghost.chained i ≡ a.ghost.chained i
+  pub spot_own : (r : ℕ) → Unlinked a r → ¬ (Touch r) → Unlinked b r
+  pub on_same : (i r : ℕ) → On a i r → (b.ghost.spot r ≡ Some i) × LinkAt b i r × (b.memory.value r ≡ a.memory.value r)
+  pub link_own : (r : ℕ) → Unlinked a r → ¬ (Touch r) → b.memory.link r ≡ a.memory.link r
+  pub value_own : (r : ℕ) → Unlinked a r → ¬ (Touch r) → b.memory.value r ≡ a.memory.value r
+  pub value_path : (i : ℕ) → a.ghost.head ≤ i → i < positions a.ghost → b.memory.value (a.ghost.path i) ≡ a.memory.value (a.ghost.path i)
+  pub anns : AnnRely z a b
+  pub more : (new : List Group) × (b.history ≡ a.history ++ new)
+
+-- facts that name nothing of the caller's own: a caller that helps another knows them alone
+abbrev pub Shared : Fact → Type 0
+Shared (owns n r) = ⊥
+Shared (holds_item x) = ⊥
+Shared (unused_rows n) = ⊥
+Shared (linearized_is d) = ⊥
+Shared (fills n s ops i j) = ⊥
+Shared (written d f) = ⊥
+Shared (head_written d) = ⊥
+Shared (takes_effect x n own) = ⊥
+Shared _ = Unit {0}
+
+abbrev pub AllShared : List Fact → Type 0
+AllShared [] = Unit {0}
+AllShared (f ∷ fs) = Shared f × AllShared fs
+
+-- so is all that a help knows of the announcement
+pub helping_shared : (h : Help) (p : HelpPoint) → AllShared (helping.knows h p)
+helping_shared h help.LoadOldHead = tt
+helping_shared h help.LoadFirst = tt
+helping_shared h help.LoadLast = tt
+helping_shared h help.LoadCounts = tt
+helping_shared h help.LoadTail = tt
+helping_shared h (help.LoadOldTail p) = (tt, (tt, (tt, tt)))
+helping_shared h (help.LoadLink p) = (tt, (tt, (tt, (tt, tt))))
+helping_shared h (help.LinkChain p) = (tt, (tt, (tt, (tt, tt))))
+helping_shared h (help.PassTail p n) = (tt, (tt, tt))
+helping_shared h (help.RecordTail p) = (tt, tt)
+helping_shared h (help.LoadTailOver q) = (tt, tt)
+helping_shared h (help.MoveTailOver q) = (tt, tt)
+helping_shared h (help.LoadWalk m r l) = (tt, (tt, (tt, tt)))
+helping_shared h (help.MoveHead m r) = (tt, (tt, (tt, tt)))
+
+module _ (z : LaneSizes) (Touch : ℕ → Type 0) (a b : World) (g : Rely z Touch a b) (c : ℕ) where
+  -- where a group stood, it stands
+  stands_still : (own : Group) (xs : List Answer) → Stands a.history own xs → Stands b.history own xs
+  stands_still own xs s = record {
+    before = s.before;
+    behind = s.behind ++ g.more.0;
+    splits = g.more.1 ∙ (ap (λ (h : List Group). h ++ g.more.0) s.splits ∙ append_assoc (s.before ++ own ∷ []) s.behind g.more.0);
+    right = s.right;
+  }
+
+  split_stable : (pre post : List Group) (own : Group) → a.history ≡ (pre ++ own ∷ []) ++ post → b.history ≡ (pre ++ own ∷ []) ++ (post ++ g.more.0)
+  split_stable pre post own e = g.more.1 ∙ (ap (λ (h : List Group). h ++ g.more.0) e ∙ append_assoc (pre ++ own ∷ []) post g.more.0)
+
+  pub kept_stable : (k : Caller) → Kept a.history c k → Kept b.history c k
+  unfolding stands_still
+  kept_stable k x = record { none = x.none; done = λ is. let y = x.done is in record { earlier = y.earlier; ops = y.ops; last = y.last; stands = stands_still (numbered c y.earlier y.ops) k.answers y.stands; timely = y.timely } }
+
+  pub owns_stable : (r : ℕ) → ¬ (Touch r) → Owns z a c r → Owns z b c r
+  owns_stable r off o = record { at_home = o.at_home; inside = o.inside; is_item = o.is_item; unlinked = g.spot_own r o.unlinked off; nil = g.link_own r o.unlinked off ∙ o.nil }
+
+  on_stable : (i r : ℕ) → On a i r → On b i r
+  on_stable i r on = let inside = on.0 in let longer = g.longer in let y = g.on_same i r on in (omega arith, y.0, g.path_same i on.0 ∙ on.2, y.1)
+
+  next_value_stable : (p : Place) (v : ℕ) → Holds z a c (next_value p v) → Holds z b c (next_value p v)
+  next_value_stable p v x = let longer = g.longer in let heads = g.heads in let seen = x.0 in (
+    omega arith,
+    λ e. let same : b.ghost.head ≡ a.ghost.head = omega arith in let y = x.1 (omega arith) in let some = y.0 in (
+      omega arith,
+      ap (λ (h : ℕ). b.memory.value (b.ghost.path (suc h))) same
+          ∙ (ap b.memory.value (g.path_same (suc a.ghost.head) (omega arith)) ∙ (g.value_path (suc a.ghost.head) (omega arith) (omega arith) ∙ y.1)),
+    ),
+  )
+
+  still : (x : ℕ) → b.ghost.ann ≡ Some x → Installed a x → (a.ghost.ann ≡ Some x) × (b.ghost.head ≡ a.ghost.head) × ((i : ℕ) → a.ghost.stage x ≡ decided i → b.ghost.shown ≡ a.ghost.shown)
+  still x e there = ⊎_elim (λ (old : (a.ghost.ann ≡ Some x) × (b.ghost.head ≡ a.ghost.head) × ((i : ℕ) → a.ghost.stage x ≡ decided i → b.ghost.shown ≡ a.ghost.shown)). old)
+      (λ (new : (a.ghost.stage x ≡ unused) × (b.ghost.stage x ≡ waiting)). absurd (there new.0)) (g.anns.stood x e)
+
+  -- a decided announcement is installed, and its words stay
+  is_installed : (x i : ℕ) → a.ghost.stage x ≡ decided i → Installed a x
+  is_installed x i e u = unused_decides u e
+
+  notice_stable : (x i : ℕ) → a.ghost.stage x ≡ decided i → b.memory.notice x ≡ a.memory.notice x
+  notice_stable x i e = g.anns.notice_same x (is_installed x i e)
+
+  -- the first values behind a dummy stay
+  values_stable : (x i n : ℕ) (own : Group) (R : Linearized z a x i n own) (m : ℕ) → m ≤ gets (a.memory.notice x).counts (i - R.dummy)
+      → run (λ j. a.memory.value (a.ghost.path j)) (suc R.dummy) m ≡ run (λ j. b.memory.value (b.ghost.path j)) (suc R.dummy) m
+  values_stable x i n own R m le = run_same (λ j. a.memory.value (a.ghost.path j)) (λ j. b.memory.value (b.ghost.path j)) (suc R.dummy) m
+      (λ j from below. subst (λ (y : ℕ). a.memory.value (a.ghost.path y) ≡ b.memory.value (b.ghost.path y)) (let e : R.dummy + (j - R.dummy) ≡ j = omega arith in e) (one (j - R.dummy) (omega arith))) where
+        one : (y : ℕ) → y ≤ gets (a.memory.notice x).counts (i - R.dummy) → a.memory.value (a.ghost.path (R.dummy + y)) ≡ b.memory.value (b.ghost.path (R.dummy + y))
+        one y l = let on = R.rows y l in sym (ap b.memory.value (g.path_same (R.dummy + y) on.0) ∙ (g.on_same (R.dummy + y) (a.ghost.path (R.dummy + y)) on).2)
+
+  -- a batch that stands in the history goes on to do so
+  pub linearized_stable : (x i n : ℕ) (own : Group) → a.ghost.stage x ≡ decided i → Linearized z a x i n own → Linearized z b x i n own
+  linearized_stable x i n own at_i R = let notice = notice_stable x i at_i in let first_on = R.rows 0 (omega arith) in record {
+    pre = R.pre;
+    post = R.post ++ g.more.0;
+    stands = split_stable R.pre R.post own R.stands;
+    since_start = R.since_start;
+    counts = ap (λ (s : Notice). s.counts) notice ∙ R.counts;
+    dummy = R.dummy;
+    old_head = ap (λ (s : Notice). s.old_head) notice ∙ (R.old_head ∙ ap (λ (r : ℕ). record { row = r; count = z.first + R.dummy }) (sym (g.path_same R.dummy (let l = first_on.0 in omega arith))));
+    before = R.before;
+    length_queue = R.length_queue;
+    values = ap (λ (s : Notice). take (gets s.counts (i - R.dummy)) (values_from (last_queue R.pre) own.ops)) notice
+        ∙ (R.values ∙ (values_stable x i n own R (gets (a.memory.notice x).counts (i - R.dummy)) (omega arith) ∙ ap (λ (s : Notice). run (λ j. b.memory.value (b.ghost.path j)) (suc R.dummy) (gets s.counts (i - R.dummy))) (sym notice)));
+    rows = λ y l. let on = R.rows y (subst (λ (s : Notice). y ≤ gets s.counts (i - R.dummy)) notice l) in
+        subst (On b (R.dummy + y)) (sym (g.path_same (R.dummy + y) on.0)) (on_stable (R.dummy + y) (a.ghost.path (R.dummy + y)) on);
+  }
+
+  pub shared_stable : (f : Fact) → Shared f → Holds z a c f → Holds z b c f
+  unfolding linearized_stable stands_still
+  shared_stable (linked p) _ x = (x.0, x.1, on_stable x.0 p.row x.2, x.3)
+  shared_stable (head_seen p) _ x = let heads = g.heads in omega arith
+  shared_stable (tail_seen p) _ x = let tails = g.tails in omega arith
+  shared_stable (tail_past p) _ x = let tails = g.tails in omega arith
+  shared_stable (next_is p n) _ x = (x.0, x.1, λ i e. let y = x.2 i e in let inside = y.0 in let longer = g.longer in (omega arith, g.path_same (suc i) inside ∙ y.1))
+  shared_stable (by_single p) _ x = λ i e. let y = x i e in let inside = y.0 in let longer = g.longer in (omega arith, g.chained_same i inside ∙ y.1)
+  shared_stable (next_value p v) _ x = next_value_stable p v x
+  shared_stable (is_op ops op) _ x = x
+  shared_stable (answered n own xs) _ x = (stands_still own xs x.0, x.1)
+  shared_stable (since n) _ x = let total = ap length g.more.1 ∙ length-append a.history g.more.0 in omega arith
+  shared_stable (kept k) _ x = kept_stable k x
+  shared_stable (rests k) _ x = x
+  shared_stable (drafts k d) _ x = x
+  shared_stable (enqueues ops s i r v) _ x = x
+  shared_stable (goes_on s i r n) _ x = x
+  shared_stable (reads n h) _ x = let notice = g.anns.notice_same h.ann x.installed in record {
+    installed = g.anns.installed h.ann x.installed;
+    inside = x.inside;
+    old_head = λ l. ap (λ (s : Notice). s.old_head) notice ∙ x.old_head l;
+    first = λ l. ap (λ (s : Notice). s.first) notice ∙ x.first l;
+    last = λ l. ap (λ (s : Notice). s.last) notice ∙ x.last l;
+    counts = λ l. ap (λ (s : Notice). s.counts) notice ∙ x.counts l;
+  }
+  shared_stable (stands_at y p) _ x = (g.anns.installed y x.0, λ e. let s = still y e x.0 in let old = x.1 s.0 in let same = s.1 in omega arith)
+  shared_stable (before_end y p) _ x = (
+    g.anns.installed y x.0,
+    λ i e. let o = x.1 i e in let inside = o.0 in let longer = g.longer in (
+      omega arith,
+      λ j d. ⊎_elim (λ (was : a.ghost.stage y ≡ decided j). let l = o.1 j was in omega arith)
+          (λ (new : (positions a.ghost < positions b.ghost) × (a.ghost.linearized (owner_of z y) ≡ false) × (b.ghost.linearized (owner_of z y) ≡ true)). let l = new.0 in omega arith) (g.anns.decides y j x.0 d),
+    ),
+  )
+  shared_stable (is_old_tail y p) _ x = (
+    g.anns.installed y x.0,
+    λ e. let s = still y e x.0 in let o = x.1 s.0 in let inside = o.2 in let longer = g.longer in
+        (o.0, g.anns.done y o.0 o.1, omega arith, o.3 ∙ ap (λ (r : ℕ). record { row = r; count = z.first + o.0 }) (sym (g.path_same o.0 o.2))),
+  )
+  shared_stable (old_tail_is y q) _ x = (x.0, g.anns.done y x.0 x.1, g.anns.old_same y q (is_installed y x.0 x.1) x.2)
+  shared_stable (tail_over y) _ x = let inst = is_installed y x.0 x.1 in (
+    x.0,
+    g.anns.done y x.0 x.1,
+    (x.2.0, g.anns.old_same y x.2.0 inst x.2.1),
+    λ e. let s = still y e inst in let o = x.3 s.0 in let tails = g.tails in let enqs = ap (λ (s : Notice). s.counts.enqs) (g.anns.notice_same y inst) in omega arith,
+  )
+  shared_stable (gets_so_many h m) _ x = let inst = is_installed h.ann x.0 x.1 in (x.0, g.anns.done h.ann x.0 x.1, (λ e. let s = still h.ann e inst in s.2 x.0 x.1 ∙ x.2 s.0), let l = x.3 in let longer = g.longer in omega arith)
+  shared_stable (walks y r l) _ x = let inst = is_installed y x.0 x.1 in (
+    x.0,
+    g.anns.done y x.0 x.1,
+    x.2,
+    λ e. let s = still y e inst in let o = x.3 s.0 in let same = s.1 in let shown = s.2 x.0 x.1 in let sum = o.1 in let inside = o.2 in let longer = g.longer in
+        (o.0, omega arith, omega arith, ap (λ (h : ℕ). b.ghost.path (h + o.0)) same ∙ (g.path_same (a.ghost.head + o.0) o.2 ∙ o.3)),
+  )
+  shared_stable (has_read n own m vs l r) _ x = record {
+    ann = x.ann;
+    position = x.position;
+    is_decided = g.anns.done x.ann x.position x.is_decided;
+    linearized = linearized_stable x.ann x.position n own x.is_decided x.linearized;
+    read = x.read;
+    queued = x.queued;
+    left = x.left ∙ ap (λ (s : Notice). gets s.counts m) (sym (notice_stable x.ann x.position x.is_decided));
+    last_row = g.path_same (x.linearized.dummy + x.read) (x.linearized.rows x.read within).0 ∙ x.last_row;
+    values = x.values ∙ values_stable x.ann x.position n own x.linearized x.read within;
+  } where
+    within : x.read ≤ gets (a.memory.notice x.ann).counts (x.position - x.linearized.dummy)
+    within = let s = x.left in let f : gets (a.memory.notice x.ann).counts m ≡ gets (a.memory.notice x.ann).counts (x.position - x.linearized.dummy) = ap (gets (a.memory.notice x.ann).counts) x.queued in omega arith
+  shared_stable (is_reading n own m vs l r) _ (y, i, at_i, R, x, m_is, sum, row, vals) = let f : gets (a.memory.notice y).counts m ≡ gets (a.memory.notice y).counts (i - R.dummy) = ap (gets (a.memory.notice y).counts) m_is in let s = sum in let on = R.rows (suc x) (omega arith) in let l = on.0 in (
+    y,
+    i,
+    g.anns.done y i at_i,
+    linearized_stable y i n own at_i R,
+    x,
+    m_is,
+    sum ∙ ap (λ (s : Notice). gets s.counts m) (sym (notice_stable y i at_i)),
+    g.path_same (suc (R.dummy + x)) (omega arith) ∙ row,
+    vals ∙ values_stable y i n own R x (omega arith),
+  )
+  shared_stable (owns n r) bad x = absurd bad
+  shared_stable (holds_item i) bad x = absurd bad
+  shared_stable (unused_rows n) bad x = absurd bad
+  shared_stable (linearized_is d) bad x = absurd bad
+  shared_stable (fills n s ops i j) bad x = absurd bad
+  shared_stable (written d f) bad x = absurd bad
+  shared_stable (head_written d) bad x = absurd bad
+  shared_stable (takes_effect y n own) bad x = absurd bad
+
+  pub all_shared_stable : (fs : List Fact) → AllShared fs → Each z a c fs → Each z b c fs
+  all_shared_stable [] _ x = tt
+  all_shared_stable (f ∷ fs) s x = (shared_stable f s.0 x.0, all_shared_stable fs s.1 x.1)
+
+  module _ (apart : (r : ℕ) → z.home r ≡ c → ¬ (Touch r)) (linearized : b.ghost.linearized c ≡ a.ghost.linearized c) (own_drafts : Drafts z a b c) where
+    -- an own announcement in HEAD stood there before
+    stood_there : (x : ℕ) → b.ghost.ann ≡ Some x → owner_of z x ≡ c → a.ghost.ann ≡ Some x
+    stood_there x e own = ⊎_elim (λ (old : (a.ghost.ann ≡ Some x) × (b.ghost.head ≡ a.ghost.head) × ((i : ℕ) → a.ghost.stage x ≡ decided i → b.ghost.shown ≡ a.ghost.shown)). old.0)
+        (λ (new : (a.ghost.stage x ≡ unused) × (b.ghost.stage x ≡ waiting)). absurd (unused_waits (own_drafts x own new.0).0 new.1)) (g.anns.stood x e)
+
+    -- an own announcement is not decided by a step that leaves the caller's `landed`
+    was : (x i : ℕ) → Installed a x → owner_of z x ≡ c → b.ghost.stage x ≡ decided i → a.ghost.stage x ≡ decided i
+    was x i inst own e = ⊎_elim (λ (old : a.ghost.stage x ≡ decided i). old)
+        (λ (new : (positions a.ghost < positions b.ghost) × (a.ghost.linearized (owner_of z x) ≡ false) × (b.ghost.linearized (owner_of z x) ≡ true)).
+        absurd (differ (sym (subst (λ (o : ℕ). b.ghost.linearized o ≡ true) own new.2) ∙ (linearized ∙ subst (λ (o : ℕ). a.ghost.linearized o ≡ false) own new.1)))) (g.anns.decides x i inst e) where
+          differ : true ≡ false → ⊥
+          differ e = cc e
+
+    pub stable : (f : Fact) → Holds z a c f → Holds z b c f
+    stable (owns n r) x = (owns_stable r (apart r x.0.at_home) x.0, x.1)
+    stable (holds_item i) x = (owns_stable i.row (apart i.row x.0.at_home) x.0, g.value_own i.row x.0.unlinked (apart i.row x.0.at_home) ∙ x.1)
+    stable (unused_rows n) x = λ i from below known. let o = x i from below known in owns_stable (item z c i) (apart (item z c i) o.at_home) o
+    stable (linearized_is d) x = (linearized ∙ x.0, λ y e own. x.1 y (stood_there y e own) own)
+    stable (fills n s ops i j) x = let off = λ (l : ℕ) (below : l < s.counts.enqs). apart (s.first + l) (x.0 l below).0 in (
+      (λ l below. let o = x.0 l below in (o.0, o.1, g.spot_own (s.first + l) o.2 (off l below), o.3)),
+      x.1,
+      (λ l below more. g.value_own (s.first + l) (x.0 l below).2 (off l below) ∙ x.2 l below more),
+      (λ l below more. g.link_own (s.first + l) (x.0 l below).2 (off l below) ∙ x.3 l below more),
+      λ l below more. g.link_own (s.first + l) (x.0 l below).2 (off l below) ∙ x.4 l below more,
+    )
+    stable (written d f) x = let w = own_drafts d.ann x.1 x.0 in (w.0, x.1, subst (λ (y : Option Place × Notice). AllAgree (stored_before f) y.0 y.1 d.notice) (λ i. (sym w.2 i, sym w.1 i)) x.2)
+    stable (head_written d) x = let w = own_drafts d.ann x.1 x.0 in (w.0, x.1, ap (λ (s : Notice). s.old_head) w.1 ∙ x.2)
+    stable (takes_effect y n own) x = (
+      g.anns.installed y x.0,
+      x.1,
+      (λ i e. let old = was y i x.0 x.1 e in let r = x.2 i old in (linearized ∙ r.0, linearized_stable y i n own old r.1)),
+      λ w e o. x.3 w (stood_there w e o) o,
+    )
+    stable (linked p) x = shared_stable (linked p) tt x
+    stable (head_seen p) x = shared_stable (head_seen p) tt x
+    stable (tail_seen p) x = shared_stable (tail_seen p) tt x
+    stable (tail_past p) x = shared_stable (tail_past p) tt x
+    stable (next_is p n) x = shared_stable (next_is p n) tt x
+    stable (by_single p) x = shared_stable (by_single p) tt x
+    stable (next_value p v) x = shared_stable (next_value p v) tt x
+    stable (is_op ops op) x = x
+    stable (answered n own xs) x = shared_stable (answered n own xs) tt x
+    stable (since n) x = shared_stable (since n) tt x
+    stable (kept k) x = shared_stable (kept k) tt x
+    stable (rests k) x = x
+    stable (drafts k d) x = x
+    stable (enqueues ops s i r v) x = x
+    stable (goes_on s i r n) x = x
+    stable (reads n h) x = shared_stable (reads n h) tt x
+    stable (stands_at y p) x = shared_stable (stands_at y p) tt x
+    stable (before_end y p) x = shared_stable (before_end y p) tt x
+    stable (is_old_tail y p) x = shared_stable (is_old_tail y p) tt x
+    stable (old_tail_is y q) x = shared_stable (old_tail_is y q) tt x
+    stable (tail_over y) x = shared_stable (tail_over y) tt x
+    stable (gets_so_many h m) x = shared_stable (gets_so_many h m) tt x
+    stable (walks y r l) x = shared_stable (walks y r l) tt x
+    stable (has_read n own m vs l r) x = shared_stable (has_read n own m vs l r) tt x
+    stable (is_reading n own m vs l r) x = shared_stable (is_reading n own m vs l r) tt x
+
+    pub all_stable : (fs : List Fact) → Each z a c fs → Each z b c fs
+    all_stable [] x = tt
+    all_stable (f ∷ fs) x = (stable f x.0, all_stable fs x.1)
+
+    pub at_point_stable : (k : Caller) (t : Point) → AtPoint z a c k t → AtPoint z b c k t
+    at_point_stable k t f = record { call = all_stable (call_knows c k t) f.call; here = all_stable (knows c k t) f.here }
+
+    -- what a caller knows goes on to be so
+    pub knows_stable : (k : Caller) → Knows z a c k → Knows z b c k
+    knows_stable k f = record { unused = stable (unused_rows k.taken) f.unused; started = stable (since k.started_at) f.started; last = stable (kept k) f.last; at_point = at_point_stable k k.point f.at_point }

@@ -1,0 +1,93 @@
+-- What a step does with its word: it loads it, stores into it, or exchanges it.
+use Rattle.std.specs.Prelude.{ℕ, ◌+◌, ◌==◌, ◌&&◌, Bool, true, false, cond, Option, Some, None}
+use Rattle.word_rows.specs.declared.place.Place.{Place}
+use Rattle.word_rows.specs.declared.head_word.HeadWord.{HeadWord}
+use Rattle.word_rows.specs.declared.head_word.HeadWord.TheVariants.{Node, Ann}
+use Rattle.word_rows.specs.declared.link_word.LinkWord.{LinkWord}
+use Rattle.word_rows.specs.declared.link_word.LinkWord.TheVariants.{Nil, Single, Chain, Shut}
+use Rattle.word_rows.specs.declared.location.Location.{Location}
+use Rattle.word_rows.specs.declared.location.Location.TheVariants.{Tail}
+use Rattle.word_rows.specs.declared.content.Content.{Content}
+use Rattle.word_rows.specs.declared.content.Content.TheVariants.{OfHead, OfTail, OfLink, OfOldTail}
+use Rattle.core_model.specs.declared.act.Act.{Act}
+use Rattle.core_model.specs.declared.act.Act.TheVariants.{Load, Store, Exchange}
+use Rattle.core_model.specs.Notices.{place}
+
+abbrev pub same_place : Place → Place → Bool
+same_place p q = (p.row == q.row) && (p.count == q.count)
+
+abbrev pub is_node : HeadWord → Place → Bool
+is_node (Node q) p = same_place q p
+is_node (Ann a n) p = false
+
+abbrev pub is_ann : HeadWord → ℕ → ℕ → Bool
+is_ann (Node p) b k = false
+is_ann (Ann a n) b k = (a == b) && (n == k)
+
+abbrev pub is_unknown : Option Place → Bool
+is_unknown None = true
+is_unknown (Some p) = false
+
+abbrev pub is_nil : LinkWord → Bool
+is_nil Nil = true
+is_nil (Single r) = false
+is_nil (Chain r) = false
+is_nil Shut = false
+
+-- the place of the row n, linked right behind p
+abbrev pub behind : Place → ℕ → Place
+behind p n = place n (p.count + 1)
+
+-- the place of the row n, so many rows behind p
+abbrev pub far_behind : Place → ℕ → ℕ → Place
+far_behind p n more = place n (p.count + more)
+
+abbrev pub same_head : HeadWord → HeadWord → Bool
+same_head x (Node p) = is_node x p
+same_head x (Ann a n) = is_ann x a n
+
+abbrev pub joins : LinkWord → LinkWord → Bool
+joins (Single r) (Single q) = r == q
+joins (Chain r) (Chain q) = r == q
+joins Shut Shut = true
+joins _ _ = false
+
+abbrev pub same_link : LinkWord → LinkWord → Bool
+same_link x Nil = is_nil x
+same_link x (Single r) = joins x (Single r)
+same_link x (Chain r) = joins x (Chain r)
+same_link x Shut = joins x Shut
+
+abbrev pub same_old_tail : Option Place → Option Place → Bool
+same_old_tail x None = is_unknown x
+same_old_tail (Some p) (Some q) = same_place p q
+same_old_tail None (Some q) = false
+
+-- Whether what was found is what an exchange expects. No step expects anything of another kind.
+abbrev pub same_content : Content → Content → Bool
+same_content (OfHead x) (OfHead y) = same_head x y
+same_content (OfTail x) (OfTail y) = same_place x y
+same_content (OfLink x) (OfLink y) = same_link x y
+same_content (OfOldTail x) (OfOldTail y) = same_old_tail x y
+same_content _ _ = false
+
+abbrev pub location : Act → Location
+location (Load l) = l
+location (Store l x) = l
+location (Exchange l old new) = l
+
+-- the step changes the word in which it finds x
+abbrev pub changes : Act → Content → Bool
+changes (Load l) x = false
+changes (Store l y) x = true
+changes (Exchange l old new) x = same_content x old
+
+-- what the word has after it
+abbrev pub effect : Act → Content → Content
+effect (Load l) x = x
+effect (Store l y) x = y
+effect (Exchange l old new) x = cond (same_content x old) new x
+
+-- an exchange of the tail by one row
+abbrev pub by_one : Place → ℕ → Act
+by_one p n = Exchange Tail (OfTail p) (OfTail (behind p n))

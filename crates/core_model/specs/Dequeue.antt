@@ -1,0 +1,79 @@
+-- A dequeue: it finds the row behind the dummy, and moves HEAD to it.
+use Rattle.std.specs.Prelude.{List, [], ◌∷◌, cond, false}
+use Rattle.bq_model.specs.declared.op.Op.TheVariants.{Deq}
+use Rattle.bq_model.specs.declared.op.Answer.TheVariants.{Got, Empty}
+use Rattle.core_model.specs.declared.point.DequeuePoint.{DequeuePoint}
+use Rattle.core_model.specs.declared.point.DequeuePoint.TheVariants.{LoadHead, LoadLink, LoadTail, LoadTailOver, PassTail, LoadValue, MoveHead}
+use Rattle.word_rows.specs.declared.place.Place.{Place}
+use Rattle.word_rows.specs.declared.head_word.HeadWord.{HeadWord}
+use Rattle.word_rows.specs.declared.head_word.HeadWord.TheVariants.{Node, Ann}
+use Rattle.word_rows.specs.declared.link_word.LinkWord.{LinkWord}
+use Rattle.word_rows.specs.declared.link_word.LinkWord.TheVariants.{Nil, Single, Chain, Shut}
+use Rattle.word_rows.specs.declared.location.Location.TheVariants.{Head, Tail, Link, Value}
+use Rattle.word_rows.specs.declared.content.Content.{Content}
+use Rattle.word_rows.specs.declared.content.Content.TheVariants.{OfHead}
+use Rattle.core_model.specs.declared.act.Act.{Act}
+use Rattle.core_model.specs.declared.act.Act.TheVariants.{Load, Exchange}
+use Rattle.core_model.specs.declared.course.Course.{Course}
+use Rattle.core_model.specs.declared.course.Course.TheVariants.{GoesOn, Ends}
+use Rattle.core_model.specs.declared.kind.StepKind.{StepKind}
+use Rattle.core_model.specs.declared.kind.StepKind.TheVariants as kind
+use Rattle.core_model.specs.declared.point.Back.TheVariants as back
+use Rattle.core_model.specs.declared.point.HelpPoint.TheVariants as help
+use Rattle.core_model.specs.declared.point.Point.{Point}
+use Rattle.core_model.specs.declared.point.Point.TheVariants as point
+use Rattle.core_model.specs.State.{Command, head_in, tail_in, link_in, value_in}
+use Rattle.core_model.specs.Act.{same_place, is_node, behind, by_one}
+use Rattle.core_model.specs.Help.{help_of}
+use Rattle.core_model.specs.Fact.{Fact, linked, head_seen, tail_past, next_is, by_single, next_value, linearized_is, is_op}
+
+abbrev pub act : DequeuePoint → Act
+act LoadHead = Load Head
+act (LoadLink p) = Load (Link p.row)
+act (LoadTail p n) = Load Tail
+act (LoadTailOver p n) = Load Tail
+act (PassTail p n) = by_one p n
+act (LoadValue p n) = Load (Value n)
+act (MoveHead p n v) = Exchange Head (OfHead (Node p)) (OfHead (Node (behind p n)))
+
+abbrev pub after_head : HeadWord → Point
+after_head (Node p) = point.Dequeue (LoadLink p)
+after_head (Ann a n) = point.Help (help_of a back.Dequeue) help.LoadOldHead
+
+-- it found this behind the dummy
+abbrev pub after_link : Place → LinkWord → Course
+after_link p Nil = Ends Empty
+after_link p (Single r) = GoesOn (point.Dequeue (LoadTail p r))
+after_link p (Chain r) = GoesOn (point.Dequeue (LoadTailOver p r))
+after_link p Shut = GoesOn (point.Dequeue LoadHead)
+
+abbrev pub course : DequeuePoint → Content → Course
+course LoadHead x = GoesOn (after_head (head_in x))
+course (LoadLink p) x = after_link p (link_in x)
+course (LoadTail p r) x = GoesOn (point.Dequeue (cond (same_place (tail_in x) p) (PassTail p r) (LoadValue p r)))
+course (LoadTailOver p r) x = GoesOn (point.Dequeue (cond (same_place (tail_in x) p) LoadHead (LoadValue p r)))
+course (PassTail p r) x = GoesOn (point.Dequeue LoadHead)
+course (LoadValue p r) x = GoesOn (point.Dequeue (MoveHead p r (value_in x)))
+course (MoveHead p r v) x = cond (is_node (head_in x) p) (Ends (Got v)) (GoesOn (point.Dequeue LoadHead))
+
+abbrev pub kind_of : DequeuePoint → StepKind
+kind_of LoadHead = kind.LoadHead
+kind_of (LoadLink p) = kind.LoadLink
+kind_of (LoadTail p n) = kind.LoadTail
+kind_of (LoadTailOver p n) = kind.LoadTail
+kind_of (PassTail p n) = kind.MoveTail
+kind_of (LoadValue p n) = kind.LoadValue
+kind_of (MoveHead p n v) = kind.MoveHead
+
+-- what it knows of its command, and besides at each of its steps
+abbrev pub call_knows : Command → List Fact
+call_knows m = linearized_is false ∷ is_op m.ops Deq ∷ []
+
+abbrev pub knows : DequeuePoint → List Fact
+knows LoadHead = []
+knows (LoadLink p) = linked p ∷ head_seen p ∷ []
+knows (LoadTail p n) = linked p ∷ head_seen p ∷ next_is p n ∷ by_single p ∷ []
+knows (LoadTailOver p n) = linked p ∷ head_seen p ∷ next_is p n ∷ []
+knows (PassTail p n) = next_is p n ∷ by_single p ∷ []
+knows (LoadValue p n) = head_seen p ∷ next_is p n ∷ tail_past p ∷ []
+knows (MoveHead p n v) = next_is p n ∷ tail_past p ∷ next_value p v ∷ []

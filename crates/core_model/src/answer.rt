@@ -1,0 +1,96 @@
+// The answers of a batch: its owner, which has helped it, loads the values that its dequeues got.
+ghost use Rattle.std.specs.Prelude.{◌≡◌};
+ghost use Rattle.core_model.specs.Answer.{act, after_old_tail, after_link, course, kind_of};
+
+use crate::act::Act;
+use crate::course::Course;
+use crate::found::{link_in, old_tail_in, value_in};
+use crate::help::gets;
+use crate::kind::StepKind;
+use crate::point::{AnswerPoint, Help, Point};
+use word_rows::{AnnField, Content, LinkWord, Location, Place};
+
+// It found this in OldTail.
+fn after_old_tail(help: Help, old_tail: Option<Place>) -> Course
+    ensures { result ≡ after_old_tail help old_tail }
+{
+    match old_tail {
+        None => Course::GoesOn(Point::Answer(AnswerPoint::LoadOldTail(help))),
+        Some(known) => {
+            let queued = known.count.saturating_sub(help.old_head.count);
+            Course::Reads {
+                queued,
+                row: help.old_head.row,
+                left: gets(help.counts, queued),
+            }
+        }
+    }
+}
+
+// The batch was on so many values; it found this behind a row, with so many values to go.
+fn after_link(queued: u64, row: u32, left: u32, link: LinkWord) -> AnswerPoint
+    ensures { result ≡ after_link queued row left link }
+{
+    match link {
+        LinkWord::Single(next) => AnswerPoint::LoadValue {
+            queued,
+            row: next,
+            left,
+        },
+        LinkWord::Chain(next) => AnswerPoint::LoadValue {
+            queued,
+            row: next,
+            left,
+        },
+        LinkWord::Nil => AnswerPoint::LoadLink { queued, row, left },
+        LinkWord::Shut => AnswerPoint::LoadLink { queued, row, left },
+    }
+}
+
+impl AnswerPoint {
+    /// What the next step does with its word.
+    pub fn act(self) -> Act
+        ensures { result ≡ act self }
+    {
+        Act::Load(match self {
+            AnswerPoint::LoadOldTail(help) => Location::AnnWord {
+                ann: help.ann,
+                field: AnnField::OldTail,
+            },
+            AnswerPoint::LoadLink { row, .. } => Location::Link { row },
+            AnswerPoint::LoadValue { row, .. } => Location::Value { row },
+        })
+    }
+
+    /// What becomes of the call after the step that found this in its word.
+    pub fn course(self, found: Content) -> Course
+        ensures { result ≡ course self found }
+    {
+        match self {
+            AnswerPoint::LoadOldTail(help) => after_old_tail(help, old_tail_in(found)),
+            AnswerPoint::LoadLink { queued, row, left } => Course::GoesOn(Point::Answer(after_link(
+                queued,
+                row,
+                left,
+                link_in(found),
+            ))),
+            AnswerPoint::LoadValue { queued, row, left } => Course::ReadsMore {
+                queued,
+                row,
+                left,
+                value: value_in(found),
+            },
+        }
+    }
+
+    /// The kind of the next step.
+    pub fn kind(self) -> StepKind
+        ensures { result ≡ kind_of self }
+    {
+        match self {
+            AnswerPoint::LoadOldTail(_) => StepKind::LoadAnn,
+            AnswerPoint::LoadLink { .. } => StepKind::LoadLink,
+            AnswerPoint::LoadValue { .. } => StepKind::LoadValue,
+        }
+    }
+}
