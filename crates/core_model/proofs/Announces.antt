@@ -49,10 +49,12 @@ stages_moved first anns stage ann notice old_tail path path' chained chained' ca
 }
 
 -- one that stands goes on to be told where the values of its rows are left
-pub told_same : (value value' path path' : ℕ → ℕ) (stage : Stage) (notice : Notice) (c : ℕ) (k : Caller)
-    → ((i j : ℕ) → stage ≡ decided i → suc i ≤ j → j < suc i + notice.counts.enqs → value' (path' j) ≡ value (path j)) → Told value path stage notice c k → Told value' path' stage notice c k
-told_same value value' path path' stage notice c k values t = record {
+pub told_same : (home value value' path path' : ℕ → ℕ) (stage : Stage) (notice : Notice) (c : ℕ) (k : Caller)
+    → ((i j : ℕ) → stage ≡ decided i → suc i ≤ j → j < suc i + notice.counts.enqs → value' (path' j) ≡ value (path j)) → Told home value path stage notice c k → Told home value' path' stage notice c k
+told_same home value value' path path' stage notice c k values t = record {
   describes = t.describes;
+  first = t.first;
+  last = t.last;
   helps = t.helps;
   values = λ i d. t.values i d ∙ run_same (λ j. value (path j)) (λ j. value' (path' j)) (suc i) notice.counts.enqs (λ j from below. sym (values i j d from below));
 }

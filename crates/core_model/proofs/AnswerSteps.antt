@@ -1,5 +1,5 @@
 -- Each step of the owner of a finished batch keeps the lane lawful.
-use Rattle.std.proofs.Common.{◌≡◌, ℕ, zero, suc, ◌+◌, ◌-◌, Bool, true, false, List, [], ◌∷◌, ◌++◌, length, take, sym, refl, ap, ◌∙◌, subst, arith, append_assoc, length-append, Option, Some, None}
+use Rattle.std.proofs.Common.{◌≡◌, ℕ, zero, suc, ◌+◌, ◌-◌, Bool, true, false, List, [], ◌∷◌, ◌++◌, length, take, sym, refl, ap, ◌∙◌, subst, arith, append_assoc, length-append, Option, Some, None, ◌<◌}
 use Rattle.bq_model.specs.declared.op.Op.{Op}
 use Rattle.bq_model.specs.declared.op.Op.TheVariants.{Enq, Deq}
 use Rattle.bq_model.specs.declared.op.Answer.{Answer}
@@ -27,12 +27,20 @@ use Rattle.core_model.specs.Facts.{Linearized, Holds, AtPoint}
 use Rattle.core_model.specs.Ghost.{Ghost, joint}
 use Rattle.core_model.specs.Lawful.{Lawful}
 use Rattle.core_model.proofs.Puts.{run_last}
-use Rattle.core_model.proofs.Stable.{world, some_none}
+use Rattle.core_model.proofs.Stable.{third, world, some_none}
 use Rattle.core_model.proofs.Preserves.{known, stutters, point_changes_with, finishes, changed, write_read}
 use Rattle.core_model.specs.declared.point.AnswerPoint.{AnswerPoint}
+use Rattle.bq_model.specs.declared.shape.Shape.{Shape}
+use Rattle.word_rows.specs.declared.content.Content.{Content}
+use Rattle.word_rows.specs.Contents.{MayHold}
+use Rattle.word_rows.specs.Sizes.{rows_of}
+use Rattle.core_model.specs.Act.{location}
+use Rattle.core_model.specs.Fits.{HelpFits}
+use Rattle.core_model.specs.Coded.{CourseFits}
 use Rattle.word_rows.specs.declared.location.AnnField.TheVariants as field
 use Rattle.core_model.specs.declared.point.Point.TheVariants as point
 use Rattle.core_model.specs.declared.point.AnswerPoint.TheVariants as answer
+use Rattle.core_model.specs.Answer as answering
 
 -- the answers by counting are the replay's, where the values are those that the replay gets
 pub paired_right : (ops : List Op) (q vs : List ℕ) → vs ≡ take (got_count (answers_from q ops)) (values_from q ops) → paired ops (length q) vs ≡ answers_from q ops
@@ -81,19 +89,19 @@ module _ (z : LaneSizes) (s : State) (L : Lawful z s) (c : ℕ) where
   -- OldTail tells how many values were queued before the batch, and none is read yet
   module _ (h : Help) (q : Place) (at_q : s.memory.old_tail h.ann ≡ Some q) (f : AtPoint z (world s L.ghost) c (s.callers c) (point.Answer (answer.LoadOldTail h))) where
     abbrev i : ℕ
-    i = f.here.1.0.0
+    i = f.here.1.0.position
 
-    linearized : (L.ghost.linearized c ≡ true) × Linearized z (world s L.ghost) h.ann f.here.1.0.0 (s.callers c).started_at (own_group c (s.callers c))
-    linearized = f.here.1.1.0.2 f.here.1.0.0 f.here.1.0.1
+    linearized : (L.ghost.linearized c ≡ true) × Linearized z (world s L.ghost) h.ann f.here.1.0.position (s.callers c).started_at (own_group c (s.callers c))
+    linearized = (third f.here).stands f.here.1.0.position f.here.1.0.is_decided
 
-    m_is : before_it h q ≡ f.here.1.0.0 - linearized.1.dummy
-    m_is = let R = linearized.1 in let qc = ap (λ (p : Place). p.count) (L.announced.recorded h.ann f.here.1.0.0 q f.here.1.0.1 at_q) in let hc = ap (λ (p : Place). p.count) (sym (f.here.0.old_head (omega arith)) ∙ R.old_head) in omega arith
+    m_is : before_it h q ≡ f.here.1.0.position - linearized.1.dummy
+    m_is = let R = linearized.1 in let qc = ap (λ (p : Place). p.count) (L.announced.recorded h.ann f.here.1.0.position q f.here.1.0.is_decided at_q) in let hc = ap (λ (p : Place). p.count) (sym (f.here.0.old_head (omega arith)) ∙ R.old_head) in omega arith
 
     none_read : Holds z (world s L.ghost) c (has_read (s.callers c).started_at (own_group c (s.callers c)) (before_it h q) [] (gets h.counts (before_it h q)) h.old_head.row)
     none_read = let R = linearized.1 in record {
       ann = h.ann;
-      position = f.here.1.0.0;
-      is_decided = f.here.1.0.1;
+      position = f.here.1.0.position;
+      is_decided = f.here.1.0.is_decided;
       linearized = R;
       read = 0;
       queued = m_is;
@@ -103,7 +111,7 @@ module _ (z : LaneSizes) (s : State) (L : Lawful z s) (c : ℕ) where
     }
 
   tail_loaded : (h : Help) (x : Option Place) → s.memory.old_tail h.ann ≡ x → AtPoint z (world s L.ghost) c (s.callers c) (point.Answer (answer.LoadOldTail h)) → Lawful z (step_with z s c (point.Answer (answer.LoadOldTail h)) (OfOldTail x))
-  tail_loaded h None at_none f = absurd (some_none (sym f.here.1.0.2.1 ∙ at_none))
+  tail_loaded h None at_none f = absurd (some_none (sym f.here.1.0.known.1 ∙ at_none))
   tail_loaded h (Some q) at_q f = on_read (before_it h q) h.old_head.row (gets h.counts (before_it h q)) [] (write s.memory (AnnWord h.ann field.OldTail) (OfOldTail (Some q)))
       (ap (write s.memory (AnnWord h.ann field.OldTail)) (ap OfOldTail (sym at_q)) ∙ write_read s.memory (AnnWord h.ann field.OldTail)) f.call.0 (none_read h q at_q f)
 
@@ -114,8 +122,18 @@ module _ (z : LaneSizes) (s : State) (L : Lawful z s) (c : ℕ) where
   next_row : (m r l n : ℕ) → ((b : Bool) (x : ℕ) → joint b x ≡ s.memory.link r → x ≡ n) → Holds z (world s L.ghost) c (has_read (s.callers c).started_at (own_group c (s.callers c)) m (s.callers c).values (suc l) r)
       → Holds z (world s L.ghost) c (is_reading (s.callers c).started_at (own_group c (s.callers c)) m (s.callers c).values l n)
   next_row m r l n names rd = let R = rd.linearized in let all : gets (s.memory.notice rd.ann).counts m ≡ gets (s.memory.notice rd.ann).counts (rd.position - R.dummy) = ap (gets (s.memory.notice rd.ann).counts) rd.queued in let e = rd.left in
-      let here = R.rows rd.read (omega arith) in let next = R.rows (suc rd.read) (omega arith) in let inside = next.0 in
-      (rd.ann, rd.position, rd.is_decided, R, rd.read, rd.queued, rd.left, names (G.chained (R.dummy + rd.read)) (G.path (suc (R.dummy + rd.read))) (sym (here.3.1 (omega arith)) ∙ ap s.memory.link rd.last_row), rd.values)
+      let here = R.rows rd.read (omega arith) in let next = R.rows (suc rd.read) (omega arith) in let inside = next.inside in
+      record {
+        ann = rd.ann;
+        position = rd.position;
+        is_decided = rd.is_decided;
+        linearized = R;
+        read = rd.read;
+        queued = rd.queued;
+        left = rd.left;
+        next_row = names (G.chained (R.dummy + rd.read)) (G.path (suc (R.dummy + rd.read))) (sym (here.link.1 (omega arith)) ∙ ap s.memory.link rd.last_row);
+        values = rd.values;
+      }
 
   link_read : (m r l : ℕ) (x : LinkWord) → s.memory.link r ≡ x → AtPoint z (world s L.ghost) c (s.callers c) (point.Answer (answer.LoadLink m r l)) → Lawful z (step_with z s c (point.Answer (answer.LoadLink m r l)) (OfLink x))
   link_read m r l Nil is f = stutters z s L c (point.Answer (answer.LoadLink m r l)) (Link r) (OfLink Nil) (ap OfLink is) f
@@ -135,16 +153,16 @@ module _ (z : LaneSizes) (s : State) (L : Lawful z s) (c : ℕ) where
   -- one value more
   value_read : (m r l : ℕ) → Holds z (world s L.ghost) c (is_reading (s.callers c).started_at (own_group c (s.callers c)) m (s.callers c).values l r)
       → Holds z (world s L.ghost) c (has_read (s.callers c).started_at (own_group c (s.callers c)) m ((s.callers c).values ++ s.memory.value r ∷ []) l r)
-  value_read m r l (a, i, d, R, x, m_is, sum, row, vals) = record {
-    ann = a;
-    position = i;
-    is_decided = d;
+  value_read m r l rd = let R = rd.linearized in let x = rd.read in record {
+    ann = rd.ann;
+    position = rd.position;
+    is_decided = rd.is_decided;
     linearized = R;
     read = suc x;
-    queued = m_is;
-    left = (let e : suc x + l ≡ x + suc l = omega arith in e) ∙ sum;
-    last_row = ap G.path (let e : R.dummy + suc x ≡ suc (R.dummy + x) = omega arith in e) ∙ row;
-    values = (λ k. vals k ++ s.memory.value (sym row k) ∷ []) ∙ (ap (λ (y : ℕ). run (λ j. s.memory.value (G.path j)) (suc R.dummy) x ++ s.memory.value (G.path y) ∷ []) (let e : suc (R.dummy + x) ≡ suc R.dummy + x = omega arith in e)
+    queued = rd.queued;
+    left = (let e : suc x + l ≡ x + suc l = omega arith in e) ∙ rd.left;
+    last_row = ap G.path (let e : R.dummy + suc x ≡ suc (R.dummy + x) = omega arith in e) ∙ rd.next_row;
+    values = (λ k. rd.values k ++ s.memory.value (sym rd.next_row k) ∷ []) ∙ (ap (λ (y : ℕ). run (λ j. s.memory.value (G.path j)) (suc R.dummy) x ++ s.memory.value (G.path y) ∷ []) (let e : suc (R.dummy + x) ≡ suc R.dummy + x = omega arith in e)
         ∙ sym (run_last (λ j. s.memory.value (G.path j)) (suc R.dummy) x));
   }
 
@@ -157,3 +175,21 @@ module _ (z : LaneSizes) (s : State) (L : Lawful z s) (c : ℕ) where
   preserves_answer (answer.LoadOldTail h) is = preserves_answer_tail h is
   preserves_answer (answer.LoadLink m r l) is = preserves_answer_link m r l is
   preserves_answer (answer.LoadValue m r l) is = preserves_answer_value m r l is
+
+-- and it goes on with what fits
+module _ (s : Shape) where
+  answer_tail : (h : Help) (x : Option Place) → HelpFits s h → CourseFits s (answering.after_old_tail h x)
+  answer_tail h None a = a
+  answer_tail h (Some q) a = a.old_head.0
+
+  answer_link : (m r l : ℕ) (x : LinkWord) → r < rows_of s → MayHold s (Link r) (OfLink x) → answering.fits s (answering.after_link m r l x)
+  answer_link m r l Nil a h = a
+  answer_link m r l (Single y) a h = h.1
+  answer_link m r l (Chain y) a h = h.1
+  answer_link m r l Shut a h = a
+
+  pub answer_fits : (p : AnswerPoint) (x : Content) → answering.fits s p → MayHold s (location (answering.act p)) x → CourseFits s (answering.course p x)
+  answer_fits (answer.LoadOldTail h) x a m = answer_tail h _ a
+  answer_fits (answer.LoadLink i r l) (OfLink x) a m = answer_link i r l x a m
+  answer_fits (answer.LoadValue i r l) x a m = a
+  answer_fits _ _ a m = absurd m.0

@@ -7,7 +7,7 @@ use native.Mathlib.Decide.{ℕ_discrete}
 use Rattle.bq_model.specs.declared.op.Op.{Op}
 use Rattle.bq_model.specs.declared.op.Op.TheVariants.{Enq, Deq}
 use Rattle.excess_count.specs.Excess.{enqueue_count}
-use Rattle.excess_count.specs.Got.{enqueued}
+use Rattle.bq_model.specs.Values.{enqueued}
 use Rattle.excess_count.proofs.ExcessLaws.{enqueue_count-enq, enqueue_count-deq}
 use Rattle.word_rows.specs.declared.place.Place.{Place}
 use Rattle.word_rows.specs.declared.link_word.LinkWord.{LinkWord}
@@ -30,7 +30,7 @@ use Rattle.core_model.specs.declared.course.Course.TheVariants.{GoesOn, Fills}
 use Rattle.core_model.specs.Ghost.{unused, waiting, decided, Ghost, World, positions, at}
 use Rattle.core_model.specs.Lawful.{LinksIn, Bound, Standing, Announced, Told, Pending, Lawful}
 use Rattle.core_model.proofs.Puts.{put_here, put_else, run_same}
-use Rattle.core_model.proofs.Stable.{world, unused_waits, unused_decides, some_none, anns_same, anns_moved, Rely, owns_stable}
+use Rattle.core_model.proofs.Stable.{third, world, unused_waits, unused_decides, some_none, anns_same, anns_moved, Rely, owns_stable}
 use Rattle.core_model.proofs.Preserves.{kept_stepped, Plain, known, preserves, changed, drafts_same, told_on, waits_on, waits_there}
 use Rattle.core_model.proofs.Announces.{told_same, pending_same, links_put}
 
@@ -78,7 +78,7 @@ module _ (z : LaneSizes) (s : State) (L : Lawful z s) (c : ℕ) where
       path_same = λ _ _. refl;
       chained_same = λ _ _. refl;
       spot_own = λ _ u _. u;
-      on_same = λ i q on. (on.1, ((λ e. links q (placed q i on.1) ∙ on.3.0 e), λ e. links q (placed q i on.1) ∙ on.3.1 e), values q (placed q i on.1));
+      on_same = λ i q on. (on.spot, ((λ e. links q (placed q i on.spot) ∙ on.link.0 e), λ e. links q (placed q i on.spot) ∙ on.link.1 e), values q (placed q i on.spot));
       link_own = λ q _ touch. links q touch;
       value_own = λ q _ touch. values q touch;
       value_path = λ i from below. values (G.path i) (on_path i from below);
@@ -108,7 +108,7 @@ module _ (z : LaneSizes) (s : State) (L : Lawful z s) (c : ℕ) where
           links = ranges;
         })
         L.announced
-        (told_on z s L c memory' G t (inl plain) (λ a at_head. told_same s.memory.value value' G.path G.path (G.stage a) (s.memory.notice a) (owner_of z a) (s.callers (owner_of z a))
+        (told_on z s L c memory' G t (inl plain) (λ a at_head. told_same z.home s.memory.value value' G.path G.path (G.stage a) (s.memory.notice a) (owner_of z a) (s.callers (owner_of z a))
         (λ i j d from below. let inside = (L.announced.bound a i d).within in let head = (L.announced.standing a i at_head d).from in values (G.path j) (on_path j (omega arith) (omega arith))) (L.told a at_head)))
         (waits_on z s L c memory' G t (λ a waits. let p = L.pending a waits in let ne = λ (i : ℕ) (below : i < (s.memory.notice a).counts.enqs) (e : G.chain i ≡ r). plain a (waits_there z s L c a waits) (sym (p.homes i below) ∙ (ap z.home e ∙ home)) in
         pending_same z s.memory.link link' s.memory.value value' G.spot G.spot G.chain (G.linearized (owner_of z a)) (G.linearized (owner_of z a)) (s.memory.notice a) (owner_of z a) (s.callers (owner_of z a))
@@ -137,19 +137,19 @@ module _ (z : LaneSizes) (s : State) (L : Lawful z s) (c : ℕ) where
     V = record { memory = record s.memory { value = value_at }; history = s.history; ghost = G }
 
     value_filled : Holds z V c (fills me.taken d.notice me.ops (suc i) 0)
-    value_filled = (
-      rows.0,
-      rows.1,
-      (λ l below more. dite (ℕ_discrete l i)
-          (λ e. subst (λ (y : ℕ). value_at (d.notice.first + y) ≡ get_or (enqueued me.ops) y 0) (sym e) (put_here s.memory.value (d.notice.first + i) v ∙ f.here.1.1.0.value))
-          (λ ne. put_else s.memory.value (d.notice.first + i) v (d.notice.first + l) (λ e. omega arith) ∙ rows.2 l below (omega arith))),
-      rows.3,
-      rows.4,
-    )
+    value_filled = record {
+      free = rows.free;
+      taken = rows.taken;
+      values = (λ l below more. dite (ℕ_discrete l i)
+          (λ e. subst (λ (y : ℕ). value_at (d.notice.first + y) ≡ get_or (enqueued me.ops) y 0) (sym e) (put_here s.memory.value (d.notice.first + i) v ∙ (third f.here).value))
+          (λ ne. put_else s.memory.value (d.notice.first + i) v (d.notice.first + l) (λ e. omega arith) ∙ rows.values l below (omega arith)));
+      joined = rows.joined;
+      nil = rows.nil;
+    }
 
     value_goes : (u : Point) → AtPoint z V c (stepped me u) u → Lawful z (changed s c (record s.memory { value = value_at }) s.history (stepped me u))
-    value_goes u kn = let mine' = rows.0 i f.here.1.1.0.inside in row_stored (d.notice.first + i) mine'.0 mine'.2 s.memory.link value_at (λ _ _. refl) (λ q ne. put_else s.memory.value (d.notice.first + i) v q ne) L.list.links f.call.0.1
-        u (λ x from. rows.1 i x f.here.1.1.0.inside from) kn
+    value_goes u kn = let mine' = rows.free i (third f.here).inside in row_stored (d.notice.first + i) mine'.at_home mine'.unlinked s.memory.link value_at (λ _ _. refl) (λ q ne. put_else s.memory.value (d.notice.first + i) v q ne) L.list.links f.call.0.1
+        u (λ x from. rows.taken i x (third f.here).inside from) kn
 
     value_next : (b one : Bool) → eqb (suc i) d.notice.counts.enqs ≡ b → eqb d.notice.counts.enqs 1 ≡ one
         → Lawful z (changed s c (record s.memory { value = value_at }) s.history (followed (length s.history) c me (cond b (GoesOn (point.Batch d (cond one (batch.StoreField field.OldTail) (batch.StoreChain 0 d.notice.first (suc d.notice.first))))) (Fills d (suc i) (suc (d.notice.first + i))))))
@@ -157,7 +157,7 @@ module _ (z : LaneSizes) (s : State) (L : Lawful z s) (c : ℕ) where
       call = f.call;
       here = (subst (λ (y : ℕ × ℕ). Holds z V c (fills me.taken d.notice me.ops y.0 y.1)) (λ k. (all k, (let e : 0 ≡ d.notice.counts.enqs - 1 = omega arith in e) k)) value_filled, (f.here.1.0, tt));
     }
-    value_next true false eb eo = let all = eqb-true (suc i) d.notice.counts.enqs eb in let some = f.call.1.0.2 in value_goes (point.Batch d (batch.StoreChain 0 d.notice.first (suc d.notice.first))) record {
+    value_next true false eb eo = let all = eqb-true (suc i) d.notice.counts.enqs eb in let some = f.call.1.0.some in value_goes (point.Batch d (batch.StoreChain 0 d.notice.first (suc d.notice.first))) record {
       call = f.call;
       here = (
         subst (λ (y : ℕ). Holds z V c (fills me.taken d.notice me.ops y 0)) all value_filled,
@@ -174,7 +174,7 @@ module _ (z : LaneSizes) (s : State) (L : Lawful z s) (c : ℕ) where
         ),
       );
     }
-    value_next false _ eb _ = let below = f.here.1.1.0.inside in value_goes (point.Batch d (batch.StoreValue (suc i) (suc (d.notice.first + i)) (get_or (enqueued me.ops) (suc i) 0))) record {
+    value_next false _ eb _ = let below = (third f.here).inside in value_goes (point.Batch d (batch.StoreValue (suc i) (suc (d.notice.first + i)) (get_or (enqueued me.ops) (suc i) 0))) record {
       call = f.call;
       here = (
         value_filled,
@@ -193,7 +193,7 @@ module _ (z : LaneSizes) (s : State) (L : Lawful z s) (c : ℕ) where
     }
 
   pub preserves_batch_value : (d : Draft) (i r v : ℕ) → (s.callers c).point ≡ point.Batch d (batch.StoreValue i r v) → Lawful z (step_at z s c (point.Batch d (batch.StoreValue i r v)))
-  preserves_batch_value d i r v is = let f = known z s L c (point.Batch d (batch.StoreValue i r v)) is in let row = f.here.1.1.0.row in subst (λ (y : ℕ). Lawful z (step_at z s c (point.Batch d (batch.StoreValue i y v)))) (sym row)
+  preserves_batch_value d i r v is = let f = known z s L c (point.Batch d (batch.StoreValue i r v)) is in let row = (third f.here).row in subst (λ (y : ℕ). Lawful z (step_at z s c (point.Batch d (batch.StoreValue i y v)))) (sym row)
       (value_next d i v (subst (λ (y : ℕ). AtPoint z (world s L.ghost) c me (point.Batch d (batch.StoreValue i y v))) row f) (eqb (suc i) d.notice.counts.enqs) (eqb d.notice.counts.enqs 1) refl refl)
 
   -- a link inside the own chain
@@ -208,26 +208,26 @@ module _ (z : LaneSizes) (s : State) (L : Lawful z s) (c : ℕ) where
     U = record { memory = record s.memory { link = link_at }; history = s.history; ghost = G }
 
     link_filled : Holds z U c (fills me.taken d.notice me.ops d.notice.counts.enqs (suc i))
-    link_filled = (
-      rows_there.0,
-      rows_there.1,
-      rows_there.2,
-      (λ l below more. dite (ℕ_discrete l i)
+    link_filled = record {
+      free = rows_there.free;
+      taken = rows_there.taken;
+      values = rows_there.values;
+      joined = (λ l below more. dite (ℕ_discrete l i)
           (λ e. subst (λ (y : ℕ). link_at (d.notice.first + y) ≡ Single (suc (d.notice.first + y))) (sym e) (put_here s.memory.link (d.notice.first + i) (Single (suc (d.notice.first + i)))))
-          (λ ne. put_else s.memory.link (d.notice.first + i) (Single (suc (d.notice.first + i))) (d.notice.first + l) (λ e. omega arith) ∙ rows_there.3 l below (omega arith))),
-      λ l below more. put_else s.memory.link (d.notice.first + i) (Single (suc (d.notice.first + i))) (d.notice.first + l) (λ e. omega arith) ∙ rows_there.4 l below (omega arith),
-    )
+          (λ ne. put_else s.memory.link (d.notice.first + i) (Single (suc (d.notice.first + i))) (d.notice.first + l) (λ e. omega arith) ∙ rows_there.joined l below (omega arith)));
+      nil = λ l below more. put_else s.memory.link (d.notice.first + i) (Single (suc (d.notice.first + i))) (d.notice.first + l) (λ e. omega arith) ∙ rows_there.nil l below (omega arith);
+    }
 
     link_next : (b : Bool) → eqb (suc (suc i)) d.notice.counts.enqs ≡ b
         → Lawful z (changed s c (record s.memory { link = link_at }) s.history (stepped me (point.Batch d (cond b (batch.StoreField field.OldTail) (batch.StoreChain (suc i) (suc (d.notice.first + i)) (suc (suc (d.notice.first + i))))))))
-    link_next b eb = let next : suc i < d.notice.counts.enqs = f.here.1.1.0.inside in let below : i < d.notice.counts.enqs = omega arith in let mine' = rows_there.0 i below in let inside = (rows_there.0 (suc i) next).1 in
-        row_stored (d.notice.first + i) mine'.0 mine'.2 link_at s.memory.value (λ q ne. put_else s.memory.link (d.notice.first + i) (Single (suc (d.notice.first + i))) q ne) (λ _ _. refl)
+    link_next b eb = let next : suc i < d.notice.counts.enqs = (third f.here).inside in let below : i < d.notice.counts.enqs = omega arith in let mine' = rows_there.free i below in let inside = (rows_there.free (suc i) next).inside in
+        row_stored (d.notice.first + i) mine'.at_home mine'.unlinked link_at s.memory.value (λ q ne. put_else s.memory.link (d.notice.first + i) (Single (suc (d.notice.first + i))) q ne) (λ _ _. refl)
         (links_put z.rows s.memory.link (d.notice.first + i) (Single (suc (d.notice.first + i))) (omega arith) L.list.links) f.call.0.1
-        (point.Batch d (cond b (batch.StoreField field.OldTail) (batch.StoreChain (suc i) (suc (d.notice.first + i)) (suc (suc (d.notice.first + i)))))) (λ x from. rows_there.1 i x below from) (knows b eb) where
+        (point.Batch d (cond b (batch.StoreField field.OldTail) (batch.StoreChain (suc i) (suc (d.notice.first + i)) (suc (suc (d.notice.first + i)))))) (λ x from. rows_there.taken i x below from) (knows b eb) where
           knows : (b : Bool) → eqb (suc (suc i)) d.notice.counts.enqs ≡ b → AtPoint z U c (stepped me (point.Batch d (cond b (batch.StoreField field.OldTail) (batch.StoreChain (suc i) (suc (d.notice.first + i)) (suc (suc (d.notice.first + i))))))) (point.Batch d (cond b (batch.StoreField field.OldTail) (batch.StoreChain (suc i) (suc (d.notice.first + i)) (suc (suc (d.notice.first + i))))))
           knows true eb = let all = eqb-true (suc (suc i)) d.notice.counts.enqs eb in
               record { call = f.call; here = (subst (λ (y : ℕ). Holds z U c (fills me.taken d.notice me.ops d.notice.counts.enqs y)) (let e : suc i ≡ d.notice.counts.enqs - 1 = omega arith in e) link_filled, (f.here.1.0, tt)) }
-          knows false eb = let next : suc i < d.notice.counts.enqs = f.here.1.1.0.inside in
+          knows false eb = let next : suc i < d.notice.counts.enqs = (third f.here).inside in
               record {
                 call = f.call;
                 here = (
@@ -247,7 +247,7 @@ module _ (z : LaneSizes) (s : State) (L : Lawful z s) (c : ℕ) where
               }
 
   pub preserves_batch_chain : (d : Draft) (i r n : ℕ) → (s.callers c).point ≡ point.Batch d (batch.StoreChain i r n) → Lawful z (step_at z s c (point.Batch d (batch.StoreChain i r n)))
-  preserves_batch_chain d i r n is = let f = known z s L c (point.Batch d (batch.StoreChain i r n)) is in let own = f.here.1.1.0 in
+  preserves_batch_chain d i r n is = let f = known z s L c (point.Batch d (batch.StoreChain i r n)) is in let own = (third f.here) in
       subst (λ (y : ℕ × ℕ). Lawful z (step_at z s c (point.Batch d (batch.StoreChain i y.0 y.1)))) (sym (rows own.row own.next))
       (link_next d i (subst (λ (y : ℕ × ℕ). AtPoint z (world s L.ghost) c me (point.Batch d (batch.StoreChain i y.0 y.1))) (rows own.row own.next) f) (eqb (suc (suc i)) d.notice.counts.enqs) refl) where
         pair : ℕ → ℕ → ℕ × ℕ
@@ -282,7 +282,7 @@ module _ (z : LaneSizes) (s : State) (L : Lawful z s) (c : ℕ) where
       path_same = λ _ _. refl;
       chained_same = λ _ _. refl;
       spot_own = λ _ u _. u;
-      on_same = λ i r on. (on.1, on.3, refl);
+      on_same = λ i r on. (on.spot, on.link, refl);
       link_own = λ _ _ _. refl;
       value_own = λ _ _ _. refl;
       value_path = λ _ _ _. refl;
@@ -307,11 +307,11 @@ module _ (z : LaneSizes) (s : State) (L : Lawful z s) (c : ℕ) where
     pub ann_stored : AtPoint z S c (stepped me t) t → Lawful z (changed s c memory_ann s.history (stepped me t))
     ann_stored knows = preserves z s L c memory_ann s.history G (stepped me t) (λ _. ⊥) (λ _ x. absurd x) storing
         (λ d n. record { linearized = refl; made = refl; drafts = λ x is u. let ne = λ (e : x ≡ a). n (sym is ∙ (ap (owner_of z) e ∙ own)) in (u, notices x ne, olds x ne); unmade = (L.callers d).unmade })
-        (L.history)
-        (L.queue)
+        L.history
+        L.queue
         (record { rows = L.list.rows; item_rows = L.list.item_rows; head = L.list.head; tail = L.list.tail; counts = L.list.counts; links = L.list.links })
         announced_as
-        (told_on z s L c memory_ann G t (inl plain) (λ x at_head. subst (λ (n : Notice). Told s.memory.value G.path (G.stage x) n (owner_of z x) (s.callers (owner_of z x))) (sym (notices x (other x (L.announced.installed x at_head)))) (L.told x at_head)))
+        (told_on z s L c memory_ann G t (inl plain) (λ x at_head. subst (λ (n : Notice). Told z.home s.memory.value G.path (G.stage x) n (owner_of z x) (s.callers (owner_of z x))) (sym (notices x (other x (L.announced.installed x at_head)))) (L.told x at_head)))
         (waits_on z s L c memory_ann G t (λ x waits. subst (λ (n : Notice). Pending z s.memory.link s.memory.value G.spot G.chain (G.linearized (owner_of z x)) n (owner_of z x) (s.callers (owner_of z x))) (sym (notices x (other_waits x waits))) (L.pending x waits)))
         (record {
           unmade = (L.callers c).unmade;
@@ -320,7 +320,7 @@ module _ (z : LaneSizes) (s : State) (L : Lawful z s) (c : ℕ) where
           knows = let f = (L.callers c).knows in record {
             unused = λ i from below known. owns_stable z (λ _. ⊥) (world s G) S storing c (item z c i) (λ x. x) (f.unused i from below known);
             started = f.started;
-            last = (kept_stepped s.history c me t me.values f.last);
+            last = kept_stepped s.history c me t me.values f.last;
             at_point = knows;
           };
         })
@@ -328,25 +328,31 @@ module _ (z : LaneSizes) (s : State) (L : Lawful z s) (c : ℕ) where
   -- a field of what the draft says
   notice_stored : (d : Draft) (f : AnnField) (n : Notice) (next : AnnField) → AtPoint z (world s L.ghost) c (s.callers c) (point.Batch d (batch.StoreField f))
       → AllAgree (stored_before next) (s.memory.old_tail d.ann) n d.notice → Lawful z (changed s c (record s.memory { notice = put s.memory.notice d.ann n }) s.history (stepped (s.callers c) (point.Batch d (batch.StoreField next))))
-  notice_stored d f n next x agrees = let w = x.here.1.0 in ann_stored d.ann w.0 w.1 (put s.memory.notice d.ann n) s.memory.old_tail (λ y ne. put_else s.memory.notice d.ann n y ne) (λ _ _. refl) x.call.0.1 (point.Batch d (batch.StoreField next))
-      (record { call = x.call; here = (x.here.0, ((w.0, w.1, subst (λ (y : Notice). AllAgree (stored_before next) (s.memory.old_tail d.ann) y d.notice) (sym (put_here s.memory.notice d.ann n)) agrees), tt)) })
+  notice_stored d f n next x agrees = let w = x.here.1.0 in ann_stored d.ann w.fresh w.owner (put s.memory.notice d.ann n) s.memory.old_tail (λ y ne. put_else s.memory.notice d.ann n y ne) (λ _ _. refl) x.call.0.1 (point.Batch d (batch.StoreField next))
+      (record { call = x.call; here = (x.here.0, (record { fresh = w.fresh; owner = w.owner; fields = subst (λ (y : Notice). AllAgree (stored_before next) (s.memory.old_tail d.ann) y d.notice) (sym (put_here s.memory.notice d.ann n)) agrees }, tt)) })
 
   field_stored : (d : Draft) (f : AnnField) → AtPoint z (world s L.ghost) c (s.callers c) (point.Batch d (batch.StoreField f)) → Lawful z (step_at z s c (point.Batch d (batch.StoreField f)))
-  field_stored d field.OldTail x = let w = x.here.1.0 in ann_stored d.ann w.0 w.1 s.memory.notice (put s.memory.old_tail d.ann None) (λ _ _. refl) (λ y ne. put_else s.memory.old_tail d.ann None y ne) x.call.0.1 (point.Batch d (batch.StoreField field.First))
-      (record { call = x.call; here = (x.here.0, ((w.0, w.1, (put_here s.memory.old_tail d.ann None, tt)), tt)) })
-  field_stored d field.First x = notice_stored d field.First (record (s.memory.notice d.ann) { first = d.notice.first }) field.Last x (refl, x.here.1.0.2)
-  field_stored d field.Last x = notice_stored d field.Last (record (s.memory.notice d.ann) { last = d.notice.last }) field.Counts x (refl, x.here.1.0.2)
-  field_stored d field.Counts x = notice_stored d field.Counts (record (s.memory.notice d.ann) { counts = d.notice.counts }) field.BatchNo x (refl, x.here.1.0.2)
-  field_stored d field.BatchNo x = notice_stored d field.BatchNo (record (s.memory.notice d.ann) { number = d.notice.number }) field.Order0 x (refl, x.here.1.0.2)
-  field_stored d field.Order0 x = notice_stored d field.Order0 (record (s.memory.notice d.ann) { order0 = d.notice.order0 }) field.Order1 x (refl, x.here.1.0.2)
-  field_stored d field.Order1 x = notice_stored d field.Order1 (record (s.memory.notice d.ann) { order1 = d.notice.order1 }) field.Order2 x (refl, x.here.1.0.2)
-  field_stored d field.Order2 x = notice_stored d field.Order2 (record (s.memory.notice d.ann) { order2 = d.notice.order2 }) field.Order3 x (refl, x.here.1.0.2)
+  field_stored d field.OldTail x = let w = x.here.1.0 in ann_stored d.ann w.fresh w.owner s.memory.notice (put s.memory.old_tail d.ann None) (λ _ _. refl) (λ y ne. put_else s.memory.old_tail d.ann None y ne) x.call.0.1 (point.Batch d (batch.StoreField field.First))
+      (record { call = x.call; here = (x.here.0, (record { fresh = w.fresh; owner = w.owner; fields = (put_here s.memory.old_tail d.ann None, tt) }, tt)) })
+  field_stored d field.First x = notice_stored d field.First (record (s.memory.notice d.ann) { first = d.notice.first }) field.Last x (refl, x.here.1.0.fields)
+  field_stored d field.Last x = notice_stored d field.Last (record (s.memory.notice d.ann) { last = d.notice.last }) field.Counts x (refl, x.here.1.0.fields)
+  field_stored d field.Counts x = notice_stored d field.Counts (record (s.memory.notice d.ann) { counts = d.notice.counts }) field.BatchNo x (refl, x.here.1.0.fields)
+  field_stored d field.BatchNo x = notice_stored d field.BatchNo (record (s.memory.notice d.ann) { number = d.notice.number }) field.Order0 x (refl, x.here.1.0.fields)
+  field_stored d field.Order0 x = notice_stored d field.Order0 (record (s.memory.notice d.ann) { order0 = d.notice.order0 }) field.Order1 x (refl, x.here.1.0.fields)
+  field_stored d field.Order1 x = notice_stored d field.Order1 (record (s.memory.notice d.ann) { order1 = d.notice.order1 }) field.Order2 x (refl, x.here.1.0.fields)
+  field_stored d field.Order2 x = notice_stored d field.Order2 (record (s.memory.notice d.ann) { order2 = d.notice.order2 }) field.Order3 x (refl, x.here.1.0.fields)
   field_stored d field.Order3 x = let w = x.here.1.0 in let n : Notice = record (s.memory.notice d.ann) { order3 = d.notice.order3 } in
-      ann_stored d.ann w.0 w.1 (put s.memory.notice d.ann n) s.memory.old_tail (λ y ne. put_else s.memory.notice d.ann n y ne) (λ _ _. refl) x.call.0.1 (point.Batch d batch.LoadHead)
-      (record { call = x.call; here = (x.here.0, ((w.0, w.1, subst (λ (y : Notice). AllAgree (stored_before field.OldHead) (s.memory.old_tail d.ann) y d.notice) (sym (put_here s.memory.notice d.ann n)) (refl, w.2)), tt)) })
+      ann_stored d.ann w.fresh w.owner (put s.memory.notice d.ann n) s.memory.old_tail (λ y ne. put_else s.memory.notice d.ann n y ne) (λ _ _. refl) x.call.0.1 (point.Batch d batch.LoadHead)
+      (record { call = x.call; here = (x.here.0, (record { fresh = w.fresh; owner = w.owner; fields = subst (λ (y : Notice). AllAgree (stored_before field.OldHead) (s.memory.old_tail d.ann) y d.notice) (sym (put_here s.memory.notice d.ann n)) (refl, w.fields) }, tt)) })
   field_stored d field.OldHead x = let w = x.here.1.0 in let n : Notice = record (s.memory.notice d.ann) { old_head = d.notice.old_head } in
-      ann_stored d.ann w.0 w.1 (put s.memory.notice d.ann n) s.memory.old_tail (λ y ne. put_else s.memory.notice d.ann n y ne) (λ _ _. refl) x.call.0.1 (point.Batch d batch.Install)
-      (record { call = x.call; here = ((w.0, w.1, ap (λ (y : Notice). y.old_head) (put_here s.memory.notice d.ann n)), (x.here.0, ((w.0, w.1, subst (λ (y : Notice). AllAgree (stored_before field.OldHead) (s.memory.old_tail d.ann) y d.notice) (sym (put_here s.memory.notice d.ann n)) w.2), tt))) })
+      ann_stored d.ann w.fresh w.owner (put s.memory.notice d.ann n) s.memory.old_tail (λ y ne. put_else s.memory.notice d.ann n y ne) (λ _ _. refl) x.call.0.1 (point.Batch d batch.Install)
+      (record {
+        call = x.call;
+        here = (
+          record { fresh = w.fresh; owner = w.owner; old_head = ap (λ (y : Notice). y.old_head) (put_here s.memory.notice d.ann n) },
+          (x.here.0, (record { fresh = w.fresh; owner = w.owner; fields = subst (λ (y : Notice). AllAgree (stored_before field.OldHead) (s.memory.old_tail d.ann) y d.notice) (sym (put_here s.memory.notice d.ann n)) w.fields }, tt)),
+        );
+      })
 
   pub preserves_batch_field : (d : Draft) (f : AnnField) → (s.callers c).point ≡ point.Batch d (batch.StoreField f) → Lawful z (step_at z s c (point.Batch d (batch.StoreField f)))
   preserves_batch_field d f is = field_stored d f (known z s L c (point.Batch d (batch.StoreField f)) is)

@@ -1,10 +1,10 @@
 -- Each step of the owner of a batch keeps the lane lawful, until its announcement is installed.
-use Rattle.std.proofs.Common.{◌≡◌, ◌≢◌, inl, inr, ℕ, suc, ◌+◌, ◌-◌, ◌*◌, ◌<◌, Bool, true, false, cond, [], length, sym, refl, ap, ◌∙◌, subst, arith, le_refl, Some, None}
+use Rattle.std.proofs.Common.{Option, ◌≡◌, ◌≢◌, inl, inr, ℕ, suc, ◌+◌, ◌-◌, ◌*◌, ◌<◌, Bool, true, false, cond, [], length, sym, refl, ap, ◌∙◌, subst, arith, le_refl, Some, None, eqb}
 use Rattle.std.proofs.lemmas.List.{append-nil}
 use Rattle.std.proofs.lemmas.Nat.{div-mul-add}
 use mathlib.Core.Logic.{dite}
 use native.Mathlib.Decide.{ℕ_discrete}
-use Rattle.excess_count.specs.Got.{enqueued}
+use Rattle.bq_model.specs.Values.{enqueued}
 use Rattle.word_rows.specs.declared.place.Place.{Place}
 use Rattle.word_rows.specs.declared.batch_words.BatchCounts.{BatchCounts}
 use Rattle.word_rows.specs.declared.head_word.HeadWord.{HeadWord}
@@ -16,29 +16,55 @@ use Rattle.core_model.specs.declared.point.Notice.{Notice}
 use Rattle.core_model.specs.declared.point.Draft.{Draft}
 use Rattle.core_model.specs.declared.point.Point.{Point}
 use Rattle.core_model.specs.Functions.{put, run}
-use Rattle.core_model.specs.LaneSizes.{LaneSizes, item, IsItem}
+use Rattle.core_model.specs.LaneSizes.{LaneSizes, item}
 use Rattle.core_model.specs.Batches.{own_ann, owner_of}
-use Rattle.core_model.specs.State.{Memory, Caller, command, State, write}
-use Rattle.core_model.specs.Act.{is_node}
+use Rattle.core_model.specs.State.{Memory, Caller, command, State, write, head_in}
+use Rattle.core_model.specs.Act.{is_node, location}
 use Rattle.core_model.specs.Fact.{linearized_is, drafts, fills}
 use Rattle.core_model.specs.Help.{help_of}
 use Rattle.core_model.specs.Step.{stepped, step_at, step_with}
-use Rattle.core_model.specs.Facts.{Holds, AtPoint}
+use Rattle.core_model.specs.Facts.{AllAgree, stored_before, Holds, AtPoint}
 use Rattle.core_model.specs.Ghost.{Stage, unused, waiting, decided, Ghost, World, at}
 use Rattle.core_model.specs.Lawful.{Headed, Announced, Told, IsTold, Pending, Waits, Unmade, Lawful}
 use Rattle.core_model.proofs.Puts.{put_here, put_else}
-use Rattle.core_model.proofs.Stable.{world, unused_waits, unused_decides, waits_decides, one_some, some_none, Rely, owns_stable}
+use Rattle.core_model.proofs.Stable.{third, world, unused_waits, unused_decides, waits_decides, one_some, some_none, Rely, owns_stable}
 use Rattle.core_model.proofs.Preserves.{kept_stepped, known, stutters, preserves, changed, same_places}
 use Rattle.core_model.proofs.BatchRows.{preserves_batch_value, preserves_batch_chain, preserves_batch_field, run_of, length-enqueued}
 use Rattle.core_model.specs.declared.point.Point.TheVariants.{Idle}
 use Rattle.core_model.specs.Batch.{on_head}
 use Rattle.core_model.specs.declared.point.BatchPoint.{BatchPoint}
 use Rattle.core_model.proofs.Lookups.{node_found, finds}
+use Rattle.bq_model.specs.declared.shape.Shape.{Shape}
+use Rattle.word_rows.specs.declared.location.AnnField.{AnnField}
+use Rattle.word_rows.specs.declared.content.Content.{Content}
+use Rattle.word_rows.specs.Contents.{MayHold}
+use Rattle.core_model.specs.declared.course.Course.TheVariants.{GoesOn, Fills}
+use Rattle.core_model.specs.Fits.{DraftFits}
+use Rattle.core_model.specs.Coded.{PointFits, CourseFits}
+use Rattle.core_model.proofs.Fitting.{fresh_help, course_either, point_either}
 use Rattle.core_model.specs.declared.point.Back.TheVariants as back
 use Rattle.core_model.specs.declared.point.BatchPoint.TheVariants as batch
 use Rattle.core_model.specs.declared.point.Point.TheVariants as point
 use Rattle.core_model.specs.declared.point.HelpPoint.TheVariants as help
 use Rattle.word_rows.specs.declared.location.AnnField.TheVariants as field
+use Rattle.core_model.specs.Batch as batching
+
+-- a notice whose fields all agree with another one is that
+all_agreed : (tail : Option Place) (s n : Notice) → s.old_head ≡ n.old_head → AllAgree (stored_before field.OldHead) tail s n → s ≡ n
+all_agreed tail s n head (order3, (order2, (order1, (order0, (number, (counts, (last, (first, _)))))))) = λ i. record {
+  old_head = head i;
+  first = first i;
+  last = last i;
+  counts = counts i;
+  number = number i;
+  order0 = order0 i;
+  order1 = order1 i;
+  order2 = order2 i;
+  order3 = order3 i;
+}
+
+tail_agreed : (tail : Option Place) (s n : Notice) → AllAgree (stored_before field.OldHead) tail s n → tail ≡ None
+tail_agreed tail s n (_, (_, (_, (_, (_, (_, (_, (_, (unknown, _))))))))) = unknown
 
 module _ (z : LaneSizes) (s : State) (L : Lawful z s) (c : ℕ) where
   module _ (d : Draft) (f : AtPoint z (world s L.ghost) c (s.callers c) (point.Batch d batch.Install)) (head : s.memory.head ≡ Node d.notice.old_head) where
@@ -64,27 +90,17 @@ module _ (z : LaneSizes) (s : State) (L : Lawful z s) (c : ℕ) where
     rows = f.here.1.0
 
     fresh : G.stage a ≡ unused
-    fresh = f.here.0.0
+    fresh = f.here.0.fresh
 
     own : owner_of z a ≡ c
-    own = f.here.0.1
+    own = f.here.0.owner
 
     -- all its words are written
     says : s.memory.notice a ≡ n
-    says = let w = f.here.1.1.0.2 in λ i. record {
-      old_head = f.here.0.2 i;
-      first = w.1.1.1.1.1.1.1.0 i;
-      last = w.1.1.1.1.1.1.0 i;
-      counts = w.1.1.1.1.1.0 i;
-      number = w.1.1.1.1.0 i;
-      order0 = w.1.1.1.0 i;
-      order1 = w.1.1.0 i;
-      order2 = w.1.0 i;
-      order3 = w.0 i;
-    }
+    says = all_agreed (s.memory.old_tail a) (s.memory.notice a) n f.here.0.old_head (third f.here).fields
 
     unknown : s.memory.old_tail a ≡ None
-    unknown = f.here.1.1.0.2.1.1.1.1.1.1.1.1.0
+    unknown = tail_agreed (s.memory.old_tail a) (s.memory.notice a) n (third f.here).fields
 
     alone : G.ann ≡ None
     alone = (node_found z s L c n.old_head head).0
@@ -139,7 +155,7 @@ module _ (z : LaneSizes) (s : State) (L : Lawful z s) (c : ℕ) where
       path_same = λ _ _. refl;
       chained_same = λ _ _. refl;
       spot_own = λ _ u _. u;
-      on_same = λ i r on. (on.1, on.3, refl);
+      on_same = λ i r on. (on.spot, on.link, refl);
       link_own = λ _ _ _. refl;
       value_own = λ _ _ _. refl;
       value_path = λ _ _ _. refl;
@@ -160,9 +176,9 @@ module _ (z : LaneSizes) (s : State) (L : Lawful z s) (c : ℕ) where
 
     announced' : Announced z memory' G'
     announced' = let A = L.announced in record {
-      inside = λ x e. subst (λ (y : ℕ). y < z.callers * z.callers) (one_some e) is.5;
+      inside = λ x e. subst (λ (y : ℕ). y < z.callers * z.callers) (one_some e) is.inside;
       installed = λ x e u. unused_waits u (ap stage' (sym (one_some e)) ∙ stage_here);
-      old_head = λ x e. ap (λ (y : ℕ). (s.memory.notice y).old_head) (sym (one_some e)) ∙ (f.here.0.2 ∙ old_head_at);
+      old_head = λ x e. ap (λ (y : ℕ). (s.memory.notice y).old_head) (sym (one_some e)) ∙ (f.here.0.old_head ∙ old_head_at);
       waits = λ x e. (ap Some (sym (is_a x e)), L.list.head.none alone);
       bound = λ x i e. A.bound x i (old_decided x i e);
       standing = λ x i at e. absurd (other x (λ u. unused_decides u (old_decided x i e)) (sym (one_some at)));
@@ -172,26 +188,23 @@ module _ (z : LaneSizes) (s : State) (L : Lawful z s) (c : ℕ) where
       lags = λ below by. let x = A.lags below by in absurd (none_stands x.0 x.2);
     }
 
-    row_home : (i : ℕ) → i < n.counts.enqs → (z.home (n.first + i) ≡ c) × (n.first + i < z.rows) × (G.spot (n.first + i) ≡ None) × IsItem z (n.first + i)
-    row_home i below = rows.0 i below
-
     pending_here : Pending z s.memory.link s.memory.value G.spot (λ i. n.first + i) (G.linearized c) n c k'
-    pending_here = let some = is.2 in record {
-      known = is.0;
+    pending_here = let some = is.some in record {
+      known = is.known;
       not_yet = off.0;
-      some = is.2;
+      some = is.some;
       starts = let e : n.first + 0 ≡ n.first = omega arith in e;
-      ends = λ i e. let l = is.3 in let same : n.first + i ≡ n.last = omega arith in same;
-      homes = λ i below. (row_home i below).0;
-      inside = λ i below. (row_home i below).1;
-      items = λ i below. (row_home i below).3;
-      unlinked = λ i below. (row_home i below).2;
-      taken = λ i j below from. rows.1 i j below from;
+      ends = λ i e. let l = is.last in let same : n.first + i ≡ n.last = omega arith in same;
+      homes = λ i below. (rows.free i below).at_home;
+      inside = λ i below. (rows.free i below).inside;
+      items = λ i below. (rows.free i below).is_item;
+      unlinked = λ i below. (rows.free i below).unlinked;
+      taken = λ i j below from. rows.taken i j below from;
       apart = λ i j less below e. absurd (omega arith);
-      joined = λ i below. rows.3 i (omega arith) (omega arith) ∙ ap Single (let e : suc (n.first + i) ≡ n.first + suc i = omega arith in e);
-      last = λ i e. rows.4 i (omega arith) (omega arith);
-      values = let long : length (enqueued me.ops) ≡ n.counts.enqs = length-enqueued me.ops ∙ sym (ap (λ (y : BatchCounts). y.enqs) is.1.0) in
-          run_of (enqueued me.ops) (λ i. s.memory.value (n.first + i)) 0 (λ l below. ap (λ (y : ℕ). s.memory.value (n.first + y)) (let e : 0 + l ≡ l = omega arith in e) ∙ rows.2 l (omega arith) (omega arith))
+      joined = λ i below. rows.joined i (omega arith) (omega arith) ∙ ap Single (let e : suc (n.first + i) ≡ n.first + suc i = omega arith in e);
+      last = λ i e. rows.nil i (omega arith) (omega arith);
+      values = let long : length (enqueued me.ops) ≡ n.counts.enqs = length-enqueued me.ops ∙ sym (ap (λ (y : BatchCounts). y.enqs) is.describes.counts) in
+          run_of (enqueued me.ops) (λ i. s.memory.value (n.first + i)) 0 (λ l below. ap (λ (y : ℕ). s.memory.value (n.first + y)) (let e : 0 + l ≡ l = omega arith in e) ∙ rows.values l (omega arith) (omega arith))
           ∙ ap (run (λ i. s.memory.value (n.first + i)) 0) long;
     }
 
@@ -200,13 +213,19 @@ module _ (z : LaneSizes) (s : State) (L : Lawful z s) (c : ℕ) where
         (subst (λ (o : ℕ). Pending z s.memory.link s.memory.value G.spot (λ i. n.first + i) (G.linearized o) (s.memory.notice a) o (put s.callers c k' o)) (sym own)
         (subst (λ (y : Notice × Caller). Pending z s.memory.link s.memory.value G.spot (λ i. n.first + i) (G.linearized c) y.0 c y.1) (λ i. (sym says i, sym (put_here s.callers c k') i)) pending_here))
 
-    told_here : Told s.memory.value G.path (stage' a) n c k'
-    told_here = record { describes = is.1; helps = tt; values = λ i d. absurd (waits_decides stage_here d) }
+    told_here : Told z.home s.memory.value G.path (stage' a) n c k'
+    told_here = record {
+      describes = is.describes;
+      first = ap z.home (let e : n.first ≡ n.first + 0 = omega arith in e) ∙ (rows.free 0 is.some).at_home;
+      last = let some = is.some in let end = is.last in ap z.home (let e : n.last ≡ n.first + (n.counts.enqs - 1) = omega arith in e) ∙ (rows.free (n.counts.enqs - 1) (omega arith)).at_home;
+      helps = tt;
+      values = λ i d. absurd (waits_decides stage_here d);
+    }
 
     told' : (x : ℕ) → IsTold z memory' G' (put s.callers c k') x
-    told' x at = subst (λ (y : ℕ). Told s.memory.value G.path (stage' y) (s.memory.notice y) (owner_of z y) (put s.callers c k' (owner_of z y))) (one_some at)
-        (subst (λ (o : ℕ). Told s.memory.value G.path (stage' a) (s.memory.notice a) o (put s.callers c k' o)) (sym own)
-        (subst (λ (y : Notice × Caller). Told s.memory.value G.path (stage' a) y.0 c y.1) (λ i. (sym says i, sym (put_here s.callers c k') i)) told_here))
+    told' x at = subst (λ (y : ℕ). Told z.home s.memory.value G.path (stage' y) (s.memory.notice y) (owner_of z y) (put s.callers c k' (owner_of z y))) (one_some at)
+        (subst (λ (o : ℕ). Told z.home s.memory.value G.path (stage' a) (s.memory.notice a) o (put s.callers c k' o)) (sym own)
+        (subst (λ (y : Notice × Caller). Told z.home s.memory.value G.path (stage' a) y.0 c y.1) (λ i. (sym says i, sym (put_here s.callers c k') i)) told_here))
 
     -- an announcement that wasn't made is another one
     unmade' : (e : ℕ) → e ≢ c → Unmade z stage' e (s.callers e)
@@ -215,22 +234,22 @@ module _ (z : LaneSizes) (s : State) (L : Lawful z s) (c : ℕ) where
     pub installed : Lawful z (changed s c memory' s.history k')
     installed = preserves z s L c memory' s.history G' k' (λ _. ⊥) (λ _ x. absurd x) installing
         (λ e ne. record { linearized = refl; made = refl; drafts = λ x at u. (stage_else x (λ same. ne (sym at ∙ (ap (owner_of z) same ∙ own))) ∙ u, refl, refl); unmade = unmade' e ne })
-        (L.history)
-        (L.queue)
+        L.history
+        L.queue
         (record { rows = L.list.rows; item_rows = L.list.item_rows; head = headed'; tail = L.list.tail; counts = L.list.counts; links = L.list.links })
         announced' told' pending'
         (let k = (L.callers c).knows in record {
-          unmade = λ i from below. stage_else (own_ann z c i) (is.4 i from) ∙ (L.callers c).unmade i from below;
+          unmade = λ i from below. stage_else (own_ann z c i) (is.taken i from) ∙ (L.callers c).unmade i from below;
           own_groups = (L.callers c).own_groups;
           allowed = (L.callers c).allowed;
           knows = record {
             unused = λ i from below known. owns_stable z (λ _. ⊥) (world s G) W installing c (item z c i) (λ x. x) (k.unused i from below known);
             started = k.started;
-            last = (kept_stepped s.history c me t' me.values k.last);
+            last = kept_stepped s.history c me t' me.values k.last;
             at_point = record {
               call = (
-                record { installed = there; inside = is.5; old_head = λ l. absurd (omega arith); first = λ l. absurd (omega arith); last = λ l. absurd (omega arith); counts = λ l. absurd (omega arith) },
-                ((there, own, (λ i e. absurd (waits_decides stage_here e)), λ x at _. sym (one_some at)), tt),
+                record { installed = there; inside = is.inside; old_head = λ l. absurd (omega arith); first = λ l. absurd (omega arith); last = λ l. absurd (omega arith); counts = λ l. absurd (omega arith) },
+                (record { installed = there; owner = own; stands = λ i e. absurd (waits_decides stage_here e); only = λ x at _. sym (one_some at) }, tt),
               );
               here = tt;
             };
@@ -250,7 +269,23 @@ module _ (z : LaneSizes) (s : State) (L : Lawful z s) (c : ℕ) where
 
   -- the owner of a batch, too
   batch_head : (d : Draft) (h : HeadWord) → s.memory.head ≡ h → AtPoint z (world s L.ghost) c (s.callers c) (point.Batch d batch.LoadHead) → Lawful z (step_with z s c (point.Batch d batch.LoadHead) (OfHead h))
-  batch_head d (Node p) is f = stutters z s L c (point.Batch (on_head d p) (batch.StoreField field.OldHead)) Head (OfHead (Node p)) (ap OfHead is) (record { call = f.call; here = f.here })
+  batch_head d (Node p) is f = stutters z s L c (point.Batch (on_head d p) (batch.StoreField field.OldHead)) Head (OfHead (Node p)) (ap OfHead is) (record {
+    call = (
+      f.call.0,
+      (
+        let x = f.call.1.0 in let y = x.describes in record {
+          known = x.known;
+          describes = record { counts = y.counts; number = y.number; order0 = y.order0; order1 = y.order1; order2 = y.order2; order3 = y.order3 };
+          some = x.some;
+          last = x.last;
+          taken = x.taken;
+          inside = x.inside;
+        },
+        tt,
+      ),
+    );
+    here = (f.here.0, (let w = f.here.1.0 in record { fresh = w.fresh; owner = w.owner; fields = w.fields }, tt));
+  })
   batch_head d (Ann a n) is f = stutters z s L c (point.Help (help_of a (back.Batch d)) help.LoadOldHead) Head (OfHead (Ann a n)) (ap OfHead is) (record { call = (finds z s L c a n is (back.Batch d), (f.call.0, (f.call.1.0, f.here))); here = tt })
 
   preserves_batch_head : (d : Draft) → (s.callers c).point ≡ point.Batch d batch.LoadHead → Lawful z (step_at z s c (point.Batch d batch.LoadHead))
@@ -263,3 +298,37 @@ module _ (z : LaneSizes) (s : State) (L : Lawful z s) (c : ℕ) where
   preserves_batch d (batch.StoreField f) is = preserves_batch_field z s L c d f is
   preserves_batch d batch.LoadHead is = preserves_batch_head d is
   preserves_batch d batch.Install is = preserves_install d is
+
+-- and it goes on with what fits
+module _ (s : Shape) where
+  head_fits : (d : Draft) (x : HeadWord) → DraftFits s d → MayHold s Head (OfHead x) → PointFits s (batching.after_head d x)
+  head_fits d (Node p) a m = let n = a.1 in (
+    (a.0, record { old_head = m.1; first = n.first; last = n.last; counts = n.counts; number = n.number; order0 = n.order0; order1 = n.order1; order2 = n.order2; order3 = n.order3 }),
+    tt,
+  )
+  head_fits d (Ann n k) a m = (fresh_help s n (back.Batch d) m.1.0 a, tt)
+
+  field_fits : (f : AnnField) → batching.fits (batching.after_field f)
+  field_fits field.OldHead = tt
+  field_fits field.OldTail = tt
+  field_fits field.First = tt
+  field_fits field.Last = tt
+  field_fits field.Counts = tt
+  field_fits field.BatchNo = tt
+  field_fits field.Order0 = tt
+  field_fits field.Order1 = tt
+  field_fits field.Order2 = tt
+  field_fits field.Order3 = tt
+
+  either_fits : (b : Bool) (p q : BatchPoint) → batching.fits p → batching.fits q → batching.fits (cond b p q)
+  either_fits true p q a b = a
+  either_fits false p q a b = b
+
+  pub batch_fits : (d : Draft) (p : BatchPoint) (x : Content) → DraftFits s d → MayHold s (location (batching.act d p)) x → CourseFits s (batching.course d p x)
+  batch_fits d (batch.StoreValue i r v) x a m = course_either s (eqb (suc i) d.notice.counts.enqs) (GoesOn (point.Batch d (cond (eqb d.notice.counts.enqs 1) (batch.StoreField field.OldTail) (batch.StoreChain 0 d.notice.first (suc d.notice.first))))) (Fills d (suc i) (suc r))
+      (a, either_fits (eqb d.notice.counts.enqs 1) (batch.StoreField field.OldTail) (batch.StoreChain 0 d.notice.first (suc d.notice.first)) tt tt) a
+  batch_fits d (batch.StoreChain i r n) x a m = (a, either_fits (eqb (suc (suc i)) d.notice.counts.enqs) (batch.StoreField field.OldTail) (batch.StoreChain (suc i) n (suc n)) tt tt)
+  batch_fits d (batch.StoreField f) x a m = (a, field_fits f)
+  batch_fits d batch.LoadHead (OfHead x) a m = head_fits d x a m
+  batch_fits d batch.Install x a m = point_either s (is_node (head_in x) d.notice.old_head) (point.Help (help_of d.ann back.Own) help.LoadOldHead) (point.Batch d batch.LoadHead) (fresh_help s d.ann back.Own a.0 tt, tt) (a, tt)
+  batch_fits _ _ _ a m = absurd m.0

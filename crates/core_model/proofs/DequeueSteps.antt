@@ -17,8 +17,8 @@ use Rattle.word_rows.specs.declared.content.Content.TheVariants.{OfHead, OfLink,
 use Rattle.core_model.specs.declared.course.Course.TheVariants.{GoesOn, Ends}
 use Rattle.core_model.specs.Functions.{run}
 use Rattle.core_model.specs.LaneSizes.{LaneSizes, item}
-use Rattle.core_model.specs.State.{Memory, Caller, State, write, own_group}
-use Rattle.core_model.specs.Act.{is_node, behind, same_place}
+use Rattle.core_model.specs.State.{Memory, Caller, State, write, own_group, head_in, tail_in}
+use Rattle.core_model.specs.Act.{is_node, behind, same_place, location}
 use Rattle.core_model.specs.Fact.{next_is, next_value, linearized_is, is_op, linked}
 use Rattle.core_model.specs.Step.{history_after, followed, ended, step_with, step_at, stepped}
 use Rattle.core_model.specs.Facts.{Holds, AtPoint, Knows}
@@ -26,7 +26,7 @@ use Rattle.core_model.specs.Ghost.{at, Ghost, World}
 use Rattle.core_model.specs.Kept.{Kept}
 use Rattle.core_model.specs.Lawful.{shown_queue, head_word, Listed, ItemRows, Headed, Tailed, Announced, Lawful}
 use Rattle.core_model.proofs.Groups.{mine-push_other}
-use Rattle.core_model.proofs.Stable.{world, some_none, anns_moved, Rely, owns_stable}
+use Rattle.core_model.proofs.Stable.{third, fourth, world, some_none, anns_moved, Rely, owns_stable}
 use Rattle.core_model.proofs.Preserves.{known, stutters, preserves, changed, same_places, write_read, rely_history, drafts_same, told_plain, waits_plain, waits_there, allowed_end, linearizes_proper, linearizes_operations, linearizes_groups, linearizes_kept, stutters_at, point_changes}
 use Rattle.core_model.proofs.Announces.{stages_moved}
 use Rattle.std.proofs.lemmas.Bool.{and_from}
@@ -37,10 +37,17 @@ use Rattle.core_model.specs.Help.{help_of}
 use Rattle.core_model.specs.declared.point.DequeuePoint.{DequeuePoint}
 use Rattle.core_model.proofs.Tails.{exchanges, with_memory}
 use Rattle.core_model.proofs.Lookups.{on_list, is_last, next_found, node_found, finds}
+use Rattle.bq_model.specs.declared.shape.Shape.{Shape}
+use Rattle.word_rows.specs.declared.content.Content.{Content}
+use Rattle.word_rows.specs.Contents.{MayHold}
+use Rattle.word_rows.specs.Fits.{limits_of, PlaceFits}
+use Rattle.core_model.specs.Coded.{PointFits, CourseFits}
+use Rattle.core_model.proofs.Fitting.{fresh_help, course_either}
 use Rattle.core_model.specs.declared.point.Point.TheVariants as point
 use Rattle.core_model.specs.declared.point.DequeuePoint.TheVariants as deq
 use Rattle.core_model.specs.declared.point.Back.TheVariants as back
 use Rattle.core_model.specs.declared.point.HelpPoint.TheVariants as help
+use Rattle.core_model.specs.Dequeue as dequeue
 
 module _ (z : LaneSizes) (s : State) (L : Lawful z s) (c : ℕ) where
   abbrev G : Ghost
@@ -90,16 +97,16 @@ module _ (z : LaneSizes) (s : State) (L : Lawful z s) (c : ℕ) where
 
   -- TAIL does not name the dummy p, so it is past that
   past : (p : Place) → (f : Holds z (world s L.ghost) c (linked p)) → p.count ≤ z.first + L.ghost.head → same_place s.memory.tail p ≡ false → p.count < z.first + L.ghost.tail
-  past p f seen apart = let from = L.list.tail.after_head in let count = ap (λ (q : Place). q.count) L.list.tail.named in let row = ap (λ (q : Place). q.row) L.list.tail.named in let here = f.1 in
-      dite (dec_le (suc p.count) (z.first + G.tail)) (λ below. below) (λ above. let same : f.0 ≡ G.tail = omega arith in
-      absurd (differ (sym (and_from (eqb s.memory.tail.row p.row) (eqb s.memory.tail.count p.count) (eq-eqb s.memory.tail.row p.row (row ∙ (ap G.path (sym same) ∙ f.2.2))) (eq-eqb s.memory.tail.count p.count (omega arith))) ∙ apart))) where
+  past p f seen apart = let from = L.list.tail.after_head in let count = ap (λ (q : Place). q.count) L.list.tail.named in let row = ap (λ (q : Place). q.row) L.list.tail.named in let here = f.count in
+      dite (dec_le (suc p.count) (z.first + G.tail)) (λ below. below) (λ above. let same : f.position ≡ G.tail = omega arith in
+      absurd (differ (sym (and_from (eqb s.memory.tail.row p.row) (eqb s.memory.tail.count p.count) (eq-eqb s.memory.tail.row p.row (row ∙ (ap G.path (sym same) ∙ f.on.row))) (eq-eqb s.memory.tail.count p.count (omega arith))) ∙ apart))) where
         differ : true ≢ false
         differ e = cc e
 
   deq_tail : (p : Place) (n : ℕ) (b : Bool) → same_place s.memory.tail p ≡ b → AtPoint z (world s L.ghost) c (s.callers c) (point.Dequeue (deq.LoadTail p n)) → Lawful z (step_at z s c (point.Dequeue (deq.LoadTail p n)))
-  deq_tail p n true is f = stutters_at z s L c (point.Dequeue (deq.LoadTail p n)) (point.Dequeue (deq.PassTail p n)) refl refl (ap (λ (b : Bool). GoesOn (point.Dequeue (cond b (deq.PassTail p n) (deq.LoadValue p n)))) is) (record { call = f.call; here = (f.here.1.1.0, (f.here.1.1.1.0, tt)) })
+  deq_tail p n true is f = stutters_at z s L c (point.Dequeue (deq.LoadTail p n)) (point.Dequeue (deq.PassTail p n)) refl refl (ap (λ (b : Bool). GoesOn (point.Dequeue (cond b (deq.PassTail p n) (deq.LoadValue p n)))) is) (record { call = f.call; here = ((third f.here), ((fourth f.here), tt)) })
   deq_tail p n false is f = stutters_at z s L c (point.Dequeue (deq.LoadTail p n)) (point.Dequeue (deq.LoadValue p n)) refl refl (ap (λ (b : Bool). GoesOn (point.Dequeue (cond b (deq.PassTail p n) (deq.LoadValue p n)))) is)
-      (record { call = f.call; here = (f.here.1.0, (f.here.1.1.0, (past p f.here.0 f.here.1.0 is, tt))) })
+      (record { call = f.call; here = (f.here.1.0, ((third f.here), (past p f.here.0 f.here.1.0 is, tt))) })
 
   preserves_deq_tail : (p : Place) (n : ℕ) → (s.callers c).point ≡ point.Dequeue (deq.LoadTail p n) → Lawful z (step_at z s c (point.Dequeue (deq.LoadTail p n)))
   preserves_deq_tail p n is = deq_tail p n (same_place s.memory.tail p) refl (known z s L c (point.Dequeue (deq.LoadTail p n)) is)
@@ -107,7 +114,7 @@ module _ (z : LaneSizes) (s : State) (L : Lawful z s) (c : ℕ) where
   deq_over : (p : Place) (n : ℕ) (b : Bool) → same_place s.memory.tail p ≡ b → AtPoint z (world s L.ghost) c (s.callers c) (point.Dequeue (deq.LoadTailOver p n)) → Lawful z (step_at z s c (point.Dequeue (deq.LoadTailOver p n)))
   deq_over p n true is f = stutters_at z s L c (point.Dequeue (deq.LoadTailOver p n)) (point.Dequeue deq.LoadHead) refl refl (ap (λ (b : Bool). GoesOn (point.Dequeue (cond b deq.LoadHead (deq.LoadValue p n)))) is) (record { call = f.call; here = tt })
   deq_over p n false is f = stutters_at z s L c (point.Dequeue (deq.LoadTailOver p n)) (point.Dequeue (deq.LoadValue p n)) refl refl (ap (λ (b : Bool). GoesOn (point.Dequeue (cond b deq.LoadHead (deq.LoadValue p n)))) is)
-      (record { call = f.call; here = (f.here.1.0, (f.here.1.1.0, (past p f.here.0 f.here.1.0 is, tt))) })
+      (record { call = f.call; here = (f.here.1.0, ((third f.here), (past p f.here.0 f.here.1.0 is, tt))) })
 
   preserves_deq_over : (p : Place) (n : ℕ) → (s.callers c).point ≡ point.Dequeue (deq.LoadTailOver p n) → Lawful z (step_at z s c (point.Dequeue (deq.LoadTailOver p n)))
   preserves_deq_over p n is = deq_over p n (same_place s.memory.tail p) refl (known z s L c (point.Dequeue (deq.LoadTailOver p n)) is)
@@ -115,7 +122,7 @@ module _ (z : LaneSizes) (s : State) (L : Lawful z s) (c : ℕ) where
   preserves_deq_value : (p : Place) (n : ℕ) → (s.callers c).point ≡ point.Dequeue (deq.LoadValue p n) → Lawful z (step_at z s c (point.Dequeue (deq.LoadValue p n)))
   preserves_deq_value p n is = let f = known z s L c (point.Dequeue (deq.LoadValue p n)) is in let next = f.here.1.0 in
       stutters z s L c (point.Dequeue (deq.MoveHead p n (s.memory.value n))) (Value n) (OfValue (s.memory.value n)) refl
-      (record { call = f.call; here = (next, (f.here.1.1.0, ((f.here.0, λ e. let y = next.2 G.head e in let inside = y.0 in (omega arith, ap s.memory.value y.1)), tt))) })
+      (record { call = f.call; here = (next, ((third f.here), ((f.here.0, λ e. let y = next.there G.head e in let inside = y.0 in (omega arith, ap s.memory.value y.1)), tt))) })
 
   module _ (p : Place) (n v : ℕ) (off : Holds z (world s L.ghost) c (linearized_is false)) (op : Holds z (world s L.ghost) c (is_op (s.callers c).ops Deq)) (next : Holds z (world s L.ghost) c (next_is p n))
       (past : p.count < z.first + L.ghost.tail) (val : Holds z (world s L.ghost) c (next_value p v)) (head : s.memory.head ≡ Node p) where
@@ -162,7 +169,7 @@ module _ (z : LaneSizes) (s : State) (L : Lawful z s) (c : ℕ) where
       path_same = λ _ _. refl;
       chained_same = λ _ _. refl;
       spot_own = λ _ u _. u;
-      on_same = λ i r on. (on.1, ((λ x. on.3.0 (omega arith)), λ x. on.3.1 (omega arith)), refl);
+      on_same = λ i r on. (on.spot, ((λ x. on.link.0 (omega arith)), λ x. on.link.1 (omega arith)), refl);
       link_own = λ _ _ _. refl;
       value_own = λ _ _ _. refl;
       value_path = λ _ _ _. refl;
@@ -200,7 +207,7 @@ module _ (z : LaneSizes) (s : State) (L : Lawful z s) (c : ℕ) where
       fits = omega arith;
     } where
       named : Node (behind p n) ≡ Node (at z.first G.path (suc G.head))
-      named = let cnt = count_is in λ i. Node (record { row = sym (next.2 G.head count_is).1 i; count = (let y : p.count + 1 ≡ z.first + suc G.head = omega arith in y) i })
+      named = let cnt = count_is in λ i. Node (record { row = sym (next.there G.head count_is).1 i; count = (let y : p.count + 1 ≡ z.first + suc G.head = omega arith in y) i })
 
     tailed' : Tailed z.first s.memory.tail G.path G.chained (suc G.head) fewer.0 G.tail
     tailed' = let e = same_end in let cnt = count_is in let a = L.list.tail.within in let w = past in record {
@@ -239,13 +246,13 @@ module _ (z : LaneSizes) (s : State) (L : Lawful z s) (c : ℕ) where
       → Lawful z (changed s c (write s.memory Head (cond b (OfHead (Node (behind p n))) (OfHead x))) (history_after b s.history own)
       (followed (length (history_after b s.history own)) c (s.callers c) (cond b (Ends (Got v)) (GoesOn (point.Dequeue deq.LoadHead)))))
   move_head p n v x is false apart f = stutters z s L c (point.Dequeue deq.LoadHead) Head (OfHead x) (ap OfHead is) (record { call = f.call; here = tt })
-  move_head p n v (Node q) is true same f = moved p n v f.call.0 f.call.1.0 f.here.0 f.here.1.0 f.here.1.1.0 (is ∙ ap Node (same_places q p same))
+  move_head p n v (Node q) is true same f = moved p n v f.call.0 f.call.1.0 f.here.0 f.here.1.0 (third f.here) (is ∙ ap Node (same_places q p same))
   move_head p n v (Ann a m) is true same f = absurd (cc same)
 
   preserves_move_head : (p : Place) (n v : ℕ) → (s.callers c).point ≡ point.Dequeue (deq.MoveHead p n v) → Lawful z (step_at z s c (point.Dequeue (deq.MoveHead p n v)))
   preserves_move_head p n v is = move_head p n v s.memory.head refl (is_node s.memory.head p) refl (known z s L c (point.Dequeue (deq.MoveHead p n v)) is)
 
-  -- the queue is empty: the command lands and ends
+  -- the queue is empty: the command takes effect and ends
   empty : (p : Place) → s.memory.link p.row ≡ Nil → AtPoint z (world s L.ghost) c (s.callers c) (point.Dequeue (deq.LoadLink p)) → Lawful z (step_with z s c (point.Dequeue (deq.LoadLink p)) (OfLink Nil))
   empty p nil known = subst (λ (m : Memory). Lawful z (changed s c m (s.history ++ own ∷ []) (last (Empty ∷ [])))) (sym (ap (write s.memory (Link p.row)) (ap OfLink (sym nil)) ∙ write_read s.memory (Link p.row)))
       (preserves z s L c s.memory (s.history ++ own ∷ []) G (last (Empty ∷ [])) (λ _. ⊥) (λ _ x. absurd x) rely (λ d apart. record { linearized = refl; made = mine-push_other s.history own d apart; drafts = drafts_same z (world s G) record { memory = s.memory; history = s.history ++ own ∷ []; ghost = G } refl refl refl d; unmade = (L.callers d).unmade })
@@ -263,7 +270,7 @@ module _ (z : LaneSizes) (s : State) (L : Lawful z s) (c : ℕ) where
         rely = rely_history z s G G.linearized (s.history ++ own ∷ []) (own ∷ [], refl)
 
         none : last_queue s.history ≡ []
-        none = let end = is_last z s L c p known.here.0 nil in let seen' = known.here.1.0 in let count = known.here.0.1 in let fits = L.list.head.fits in L.queue ∙ ap (run (λ i. s.memory.value (G.path i)) (suc (G.head + G.shown))) (let e : G.queued ≡ 0 = omega arith in e)
+        none = let end = is_last z s L c p known.here.0 nil in let seen' = known.here.1.0 in let count = known.here.0.count in let fits = L.list.head.fits in L.queue ∙ ap (run (λ i. s.memory.value (G.path i)) (suc (G.head + G.shown))) (let e : G.queued ≡ 0 = omega arith in e)
 
         queue' : last_queue (s.history ++ own ∷ []) ≡ shown_queue s.memory.value G
         queue' = last_queue-push s.history own ∙ (ap (queue_from (last_queue s.history)) known.call.1.0.0 ∙ (ap (λ (q : List ℕ). queue_from q (Deq ∷ [])) none ∙ (sym none ∙ L.queue)))
@@ -293,3 +300,29 @@ module _ (z : LaneSizes) (s : State) (L : Lawful z s) (c : ℕ) where
   preserves_dequeue (deq.PassTail p n) is = preserves_deq_pass p n is
   preserves_dequeue (deq.LoadValue p n) is = preserves_deq_value p n is
   preserves_dequeue (deq.MoveHead p n v) is = preserves_move_head p n v is
+
+-- and it goes on with what fits
+module _ (s : Shape) where
+  head_fits : (x : HeadWord) → MayHold s Head (OfHead x) → PointFits s (dequeue.after_head x)
+  head_fits (Node p) m = m.1
+  head_fits (Ann n k) m = (fresh_help s n back.Dequeue m.1.0 tt, tt)
+
+  link_fits : (p : Place) (x : LinkWord) → PlaceFits (limits_of s) p → MayHold s (Link p.row) (OfLink x) → CourseFits s (dequeue.after_link p x)
+  link_fits p Nil a m = tt
+  link_fits p (Single r) a m = (a, m.1)
+  link_fits p (Chain r) a m = (a, m.1)
+  link_fits p Shut a m = tt
+
+  either_fits : (b : Bool) (p q : DequeuePoint) → dequeue.fits s p → dequeue.fits s q → dequeue.fits s (cond b p q)
+  either_fits true p q a b = a
+  either_fits false p q a b = b
+
+  pub dequeue_fits : (p : DequeuePoint) (x : Content) → dequeue.fits s p → MayHold s (location (dequeue.act p)) x → CourseFits s (dequeue.course p x)
+  dequeue_fits deq.LoadHead (OfHead x) a m = head_fits x m
+  dequeue_fits (deq.LoadLink p) (OfLink x) a m = link_fits p x a m
+  dequeue_fits (deq.LoadTail p r) x a m = either_fits (same_place (tail_in x) p) (deq.PassTail p r) (deq.LoadValue p r) a a
+  dequeue_fits (deq.LoadTailOver p r) x a m = either_fits (same_place (tail_in x) p) deq.LoadHead (deq.LoadValue p r) tt a
+  dequeue_fits (deq.PassTail p r) x a m = tt
+  dequeue_fits (deq.LoadValue p r) x a m = a
+  dequeue_fits (deq.MoveHead p r v) x a m = course_either s (is_node (head_in x) p) (Ends _) (GoesOn (point.Dequeue deq.LoadHead)) tt tt
+  dequeue_fits _ _ a m = absurd m.0

@@ -27,7 +27,7 @@ use Rattle.core_model.specs.Kept.{Kept}
 use Rattle.core_model.specs.Lawful.{shown_queue, head_word, Listed, ItemRows, Headed, Tailed, Announced, IsTold, Waits, OwnGroups, Lawful}
 use Rattle.core_model.proofs.Puts.{put_here, put_else, run_last, run_same}
 use Rattle.core_model.proofs.Groups.{mine-push_other}
-use Rattle.core_model.proofs.Stable.{world, anns_same, Rely, owns_stable, kept_stable}
+use Rattle.core_model.proofs.Stable.{third, fourth, world, anns_same, Rely, owns_stable, kept_stable}
 use Rattle.core_model.proofs.Preserves.{kept_stepped, known, stutters, preserves, changed, drafts_same, told_on, waits_on, waits_there, linearizes_proper, linearizes_operations, linearizes_mine}
 use Rattle.core_model.specs.Batches.{owner_of}
 use Rattle.core_model.proofs.Announces.{stages_moved, told_same, pending_same, links_put}
@@ -40,7 +40,7 @@ module _ (z : LaneSizes) (s : State) (L : Lawful z s) (c : ℕ) where
     abbrev G : Ghost
     G = L.ghost
 
-    -- the last place, and the new one
+    -- the last position, and the new one
     abbrev e : ℕ
     e = G.head + G.rest
 
@@ -74,19 +74,19 @@ module _ (z : LaneSizes) (s : State) (L : Lawful z s) (c : ℕ) where
     abbrev W : World
     W = record { memory = memory'; history = s.history ++ own ∷ []; ghost = G' }
 
-    end_is : f.0 ≡ e
+    end_is : f.position ≡ e
     end_is = is_last z s L c p f nil
 
     row_is : p.row ≡ G.path e
-    row_is = sym f.2.2 ∙ ap G.path end_is
+    row_is = sym f.on.row ∙ ap G.path end_is
 
     count_is : p.count ≡ z.first + e
-    count_is = f.1 ∙ ap (λ (i : ℕ). z.first + i) end_is
+    count_is = f.count ∙ ap (λ (i : ℕ). z.first + i) end_is
 
     spot_is : G.spot p.row ≡ Some e
-    spot_is = f.2.1 ∙ ap Some end_is
+    spot_is = f.on.spot ∙ ap Some end_is
 
-    -- a row at another place, or at none
+    -- a row at another position, or at none
     not_end : (r i : ℕ) → G.spot r ≡ Some i → i ≢ e → r ≢ p.row
     not_end r i at apart is = apart (same (sym at ∙ (ap G.spot is ∙ spot_is))) where
       same : Some i ≡ Some e → i ≡ e
@@ -121,7 +121,7 @@ module _ (z : LaneSizes) (s : State) (L : Lawful z s) (c : ℕ) where
     old_link i r below apart at is = (put_else s.memory.link p.row (Single x.row) r (not_end r i at apart) ∙ is)
         ∙ sym (ap (λ (b : Bool). joint b (path' (suc i))) (put_else G.chained e false i apart) ∙ ap (joint (G.chained i)) (old_path (suc i) below))
 
-    -- a fact of each place
+    -- a fact of each position
     each_place : (P : ℕ → ℕ → Type 0) (from : ℕ) → ((i : ℕ) → from ≤ i → i < n → P i (G.path i)) → P n x.row → (i : ℕ) → from ≤ i → i < positions G' → P i (path' i)
     each_place P from old new i above below = dite (ℕ_discrete i n) (λ is. subst (λ (j : ℕ). P j (path' j)) (sym is) (subst (P n) (sym new_path) new))
         (λ apart. let below' : i < n = omega arith in subst (P i) (sym (old_path i below')) (old i above below'))
@@ -167,10 +167,10 @@ module _ (z : LaneSizes) (s : State) (L : Lawful z s) (c : ℕ) where
 
     linked_on : (i r : ℕ) → On (world s G) i r → LinkAt W i r
     linked_on i r on = (
-      (λ is. let below = on.0 in absurd (omega arith)),
+      (λ is. let below = on.inside in absurd (omega arith)),
       λ below. dite (ℕ_discrete i e)
-          (λ is. end_link i r is (sym on.2 ∙ (ap G.path is ∙ sym row_is)))
-          (λ apart. let inside = on.0 in old_link i r (omega arith) apart on.1 (on.3.1 (omega arith))),
+          (λ is. end_link i r is (sym on.row ∙ (ap G.path is ∙ sym row_is)))
+          (λ apart. let inside = on.inside in old_link i r (omega arith) apart on.spot (on.link.1 (omega arith))),
     )
 
     rely : Rely z (λ r. r ≡ x.row) (world s G) W
@@ -181,7 +181,7 @@ module _ (z : LaneSizes) (s : State) (L : Lawful z s) (c : ℕ) where
       path_same = old_path;
       chained_same = λ i below. put_else G.chained e false i (λ is. omega arith);
       spot_own = λ r u apart. put_else G.spot x.row (Some n) r apart ∙ u;
-      on_same = λ i r on. (put_else G.spot x.row (Some n) r (placed r i on.1) ∙ on.1, linked_on i r on, refl);
+      on_same = λ i r on. (put_else G.spot x.row (Some n) r (placed r i on.spot) ∙ on.spot, linked_on i r on, refl);
       link_own = λ r u _. own_link r u;
       value_own = λ _ _ _. refl;
       value_path = λ _ _ _. refl;
@@ -206,7 +206,11 @@ module _ (z : LaneSizes) (s : State) (L : Lawful z s) (c : ℕ) where
           ((record { before = s.history; behind = []; splits = sym (append-nil (s.history ++ own ∷ [])); right = sym (ap (answers_from (last_queue s.history)) op.0) }, now), tt),
         );
         here = (
-          ((let here = count_is in omega arith), o.0.inside, λ i is. let here = count_is in let same : i ≡ e = omega arith in (omega arith, ap (λ (y : ℕ). path' (suc y)) same ∙ new_path)),
+          record {
+            from = (let here = count_is in omega arith);
+            inside = o.0.inside;
+            there = λ i is. let here = count_is in let same : i ≡ e = omega arith in (omega arith, ap (λ (y : ℕ). path' (suc y)) same ∙ new_path);
+          },
           ((λ i is. let here = count_is in let same : i ≡ e = omega arith in (omega arith, ap chained' same ∙ put_here G.chained e false)), tt),
         );
       };
@@ -227,7 +231,7 @@ module _ (z : LaneSizes) (s : State) (L : Lawful z s) (c : ℕ) where
           differ y = cc y
 
     told' : (a : ℕ) → IsTold z memory' G' (put s.callers c k') a
-    told' = told_on z s L c memory' G' (point.Enqueue x (enq.MoveTail p x.row)) (inl off.1) (λ a at_head. told_same s.memory.value s.memory.value G.path path' (G.stage a) (s.memory.notice a) (owner_of z a) (s.callers (owner_of z a))
+    told' = told_on z s L c memory' G' (point.Enqueue x (enq.MoveTail p x.row)) (inl off.1) (λ a at_head. told_same z.home s.memory.value s.memory.value G.path path' (G.stage a) (s.memory.notice a) (owner_of z a) (s.callers (owner_of z a))
         (λ i j d from below. let inside = (L.announced.bound a i d).within in ap s.memory.value (old_path j (omega arith))) (L.told a at_head))
 
     pending' : (a : ℕ) → Waits z memory' G' (put s.callers c k') a
@@ -252,7 +256,7 @@ module _ (z : LaneSizes) (s : State) (L : Lawful z s) (c : ℕ) where
         announced' told' pending' (record { unmade = (L.callers c).unmade; own_groups = groups'; allowed = (L.callers c).allowed; knows = knows' })
 
   link_single : (x : Item) (p : Place) (l : LinkWord) → s.memory.link p.row ≡ l → AtPoint z (world s L.ghost) c (s.callers c) (point.Enqueue x (enq.LinkSingle p)) → Lawful z (step_with z s c (point.Enqueue x (enq.LinkSingle p)) (OfLink l))
-  link_single x p Nil is f = appended x p f.call.0 f.call.1.0 f.call.1.1.0 f.call.1.1.1.0 f.here.0 f.here.1.0 is
+  link_single x p Nil is f = appended x p f.call.0 f.call.1.0 (third f.call) (fourth f.call) f.here.0 f.here.1.0 is
   link_single x p (Single r) is f = stutters z s L c (point.Enqueue x enq.LoadTail) (Link p.row) (OfLink (Single r)) (ap OfLink is) (record { call = f.call; here = tt })
   link_single x p (Chain r) is f = stutters z s L c (point.Enqueue x enq.LoadTail) (Link p.row) (OfLink (Chain r)) (ap OfLink is) (record { call = f.call; here = tt })
   link_single x p Shut is f = stutters z s L c (point.Enqueue x enq.LoadTail) (Link p.row) (OfLink Shut) (ap OfLink is) (record { call = f.call; here = tt })

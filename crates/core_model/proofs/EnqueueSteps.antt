@@ -1,18 +1,18 @@
 -- Each step of an enqueue keeps the lane lawful.
-use Rattle.std.proofs.Common.{◌≡◌, inl, ℕ, suc, ◌+◌, ◌<◌, ◌≤◌, false, [], length, sym, refl, ap, ◌∙◌, arith, le_refl, Some, None, ◌∷◌}
+use Rattle.std.proofs.Common.{◌≡◌, inl, ℕ, suc, ◌+◌, ◌<◌, ◌≤◌, false, [], length, sym, refl, ap, ◌∙◌, arith, le_refl, Some, None, ◌∷◌, Bool, true, cond}
 use Rattle.std.proofs.lemmas.List.{append-nil}
 use Rattle.bq_model.specs.declared.op.Op.TheVariants.{Enq}
 use Rattle.core_model.specs.declared.point.Item.{Item}
 use Rattle.core_model.specs.Functions.{put}
 use Rattle.core_model.specs.LaneSizes.{LaneSizes, item}
-use Rattle.core_model.specs.State.{Memory, Caller, State}
+use Rattle.core_model.specs.State.{Memory, Caller, State, link_in}
 use Rattle.core_model.specs.Fact.{owns, is_op, linearized_is}
 use Rattle.core_model.specs.Step.{stepped, step_at, step_with, ended}
 use Rattle.core_model.specs.Facts.{Owns, Holds, AtPoint}
 use Rattle.core_model.specs.Ghost.{Ghost, World, positions}
 use Rattle.core_model.specs.Lawful.{Lawful}
 use Rattle.core_model.proofs.Puts.{put_here, put_else, run_same}
-use Rattle.core_model.proofs.Stable.{world, anns_same, Rely, owns_stable}
+use Rattle.core_model.proofs.Stable.{third, world, anns_same, Rely, owns_stable}
 use Rattle.core_model.proofs.Preserves.{kept_stepped, known, preserves, changed, drafts_same, told_on, waits_on, waits_there, stutters, point_changes, finishes}
 use Rattle.core_model.proofs.Announces.{told_same, pending_same}
 use Rattle.core_model.specs.Batches.{owner_of}
@@ -24,17 +24,25 @@ use Rattle.word_rows.specs.declared.link_word.LinkWord.TheVariants.{Nil, Single,
 use Rattle.word_rows.specs.declared.location.Location.TheVariants.{Head, Tail, Link}
 use Rattle.word_rows.specs.declared.content.Content.TheVariants.{OfHead, OfTail, OfLink}
 use Rattle.core_model.specs.declared.point.Point.TheVariants.{Idle}
-use Rattle.core_model.specs.Act.{same_place}
+use Rattle.core_model.specs.Act.{same_place, is_nil, location}
 use Rattle.core_model.specs.Help.{help_of}
 use Rattle.bq_model.specs.declared.op.Answer.TheVariants.{Done}
 use Rattle.core_model.specs.declared.point.EnqueuePoint.{EnqueuePoint}
 use Rattle.core_model.proofs.Tails.{exchanges, with_memory}
 use Rattle.core_model.proofs.Lookups.{on_list, next_found, finds}
 use Rattle.core_model.proofs.EnqueueLink.{preserves_link_single}
+use Rattle.bq_model.specs.declared.shape.Shape.{Shape}
+use Rattle.word_rows.specs.declared.content.Content.{Content}
+use Rattle.word_rows.specs.Contents.{MayHold}
+use Rattle.word_rows.specs.Fits.{limits_of, PlaceFits}
+use Rattle.core_model.specs.Fits.{ItemFits}
+use Rattle.core_model.specs.Coded.{PointFits, CourseFits}
+use Rattle.core_model.proofs.Fitting.{fresh_help}
 use Rattle.core_model.specs.declared.point.Point.TheVariants as point
 use Rattle.core_model.specs.declared.point.EnqueuePoint.TheVariants as enq
 use Rattle.core_model.specs.declared.point.Back.TheVariants as back
 use Rattle.core_model.specs.declared.point.HelpPoint.TheVariants as help
+use Rattle.core_model.specs.Enqueue as enqueue
 
 module _ (z : LaneSizes) (s : State) (L : Lawful z s) (c : ℕ) (x : Item) (off : Holds z (world s L.ghost) c (linearized_is false)) (op : Holds z (world s L.ghost) c (is_op (s.callers c).ops (Enq x.value)))
     (own : Holds z (world s L.ghost) c (owns (s.callers c).taken x.row)) where
@@ -70,7 +78,7 @@ module _ (z : LaneSizes) (s : State) (L : Lawful z s) (c : ℕ) (x : Item) (off 
     path_same = λ _ _. refl;
     chained_same = λ _ _. refl;
     spot_own = λ _ u _. u;
-    on_same = λ i r on. (on.1, on.3, put_else s.memory.value x.row x.value r (λ e. absent (sym own.0.unlinked ∙ (ap G.spot (sym e) ∙ on.1))));
+    on_same = λ i r on. (on.spot, on.link, put_else s.memory.value x.row x.value r (λ e. absent (sym own.0.unlinked ∙ (ap G.spot (sym e) ∙ on.spot))));
     link_own = λ _ _ _. refl;
     value_own = λ r _ apart. put_else s.memory.value x.row x.value r apart;
     value_path = on_path;
@@ -88,7 +96,7 @@ module _ (z : LaneSizes) (s : State) (L : Lawful z s) (c : ℕ) (x : Item) (off 
       ((L.queue ∙ run_same (λ i. s.memory.value (G.path i)) (λ i. value' (G.path i)) (suc (G.head + G.shown)) G.queued (λ j from below. let fits = L.list.head.fits in sym (on_path j (omega arith) (omega arith)))))
       (record { rows = L.list.rows; item_rows = L.list.item_rows; head = L.list.head; tail = L.list.tail; counts = L.list.counts; links = L.list.links })
       L.announced
-      (told_on z s L c memory' G (point.Enqueue x enq.LoadTail) (inl off.1) (λ a at_head. told_same s.memory.value value' G.path G.path (G.stage a) (s.memory.notice a) (owner_of z a) (s.callers (owner_of z a))
+      (told_on z s L c memory' G (point.Enqueue x enq.LoadTail) (inl off.1) (λ a at_head. told_same z.home s.memory.value value' G.path G.path (G.stage a) (s.memory.notice a) (owner_of z a) (s.callers (owner_of z a))
       (λ i j d from below. let inside = (L.announced.bound a i d).within in let head = (L.announced.standing a i at_head d).from in on_path j (omega arith) (omega arith)) (L.told a at_head)))
       (waits_on z s L c memory' G (point.Enqueue x enq.LoadTail) (λ a waits. let p = L.pending a waits in pending_same z s.memory.link s.memory.link s.memory.value value' G.spot G.spot G.chain (G.linearized (owner_of z a)) (G.linearized (owner_of z a)) (s.memory.notice a) (owner_of z a) (s.callers (owner_of z a))
       (λ _ _. refl) (λ i below. put_else s.memory.value x.row x.value (G.chain i) (λ e. off.1 a (waits_there z s L c a waits) (sym (p.homes i below) ∙ (ap z.home e ∙ own.0.at_home)))) p.unlinked refl p))
@@ -105,7 +113,7 @@ module _ (z : LaneSizes) (s : State) (L : Lawful z s) (c : ℕ) (x : Item) (off 
       })
 
 pub preserves_store_value : (z : LaneSizes) (s : State) (L : Lawful z s) (c : ℕ) (x : Item) → (s.callers c).point ≡ point.Enqueue x enq.StoreValue → Lawful z (step_at z s c (point.Enqueue x enq.StoreValue))
-preserves_store_value z s L c x is = let f = known z s L c (point.Enqueue x enq.StoreValue) is in value_stored z s L c x f.call.0 f.call.1.0 f.call.1.1.0
+preserves_store_value z s L c x is = let f = known z s L c (point.Enqueue x enq.StoreValue) is in value_stored z s L c x f.call.0 f.call.1.0 (third f.call)
 
 module _ (z : LaneSizes) (s : State) (L : Lawful z s) (c : ℕ) where
   preserves_enq_tail : (x : Item) → (s.callers c).point ≡ point.Enqueue x enq.LoadTail → Lawful z (step_at z s c (point.Enqueue x enq.LoadTail))
@@ -148,3 +156,29 @@ module _ (z : LaneSizes) (s : State) (L : Lawful z s) (c : ℕ) where
   preserves_enqueue x (enq.PassTail p n) is = preserves_enq_pass x p n is
   preserves_enqueue x (enq.MoveTail p n) is = preserves_enq_last x p n is
   preserves_enqueue x enq.LoadHead is = preserves_enq_head x is
+
+-- and it goes on with what fits
+module _ (s : Shape) where
+  link_fits : (p : Place) (x : LinkWord) → PlaceFits (limits_of s) p → MayHold s (Link p.row) (OfLink x) → enqueue.fits s (enqueue.after_link p x)
+  link_fits p Nil b m = b
+  link_fits p (Single n) b m = (b, m.1)
+  link_fits p (Chain n) b m = tt
+  link_fits p Shut b m = tt
+
+  head_fits : (i : Item) (x : HeadWord) → ItemFits s i → MayHold s Head (OfHead x) → PointFits s (enqueue.after_head i x)
+  head_fits i (Node p) a m = (a, tt)
+  head_fits i (Ann n k) a m = (fresh_help s n (back.Enqueue i) m.1.0 a, tt)
+
+  linked_fits : (b : Bool) (i : Item) (p : Place) → ItemFits s i → PlaceFits (limits_of s) p → enqueue.fits s (cond b (enq.MoveTail p i.row) enq.LoadTail)
+  linked_fits true i p a b = (b, a.row)
+  linked_fits false i p a b = tt
+
+  pub enqueue_fits : (i : Item) (p : EnqueuePoint) (x : Content) → ItemFits s i → enqueue.fits s p → MayHold s (location (enqueue.act i p)) x → CourseFits s (enqueue.course i p x)
+  enqueue_fits i enq.StoreValue x a b m = (a, tt)
+  enqueue_fits i enq.LoadTail (OfTail q) a b m = (a, m.1)
+  enqueue_fits i (enq.LoadLink p) (OfLink x) a b m = (a, link_fits p x b m)
+  enqueue_fits i (enq.LinkSingle p) x a b m = (a, linked_fits (is_nil (link_in x)) i p a b)
+  enqueue_fits i (enq.PassTail p n) x a b m = (a, tt)
+  enqueue_fits i (enq.MoveTail p n) x a b m = tt
+  enqueue_fits i enq.LoadHead (OfHead x) a b m = head_fits i x a m
+  enqueue_fits _ _ _ a b m = absurd m.0

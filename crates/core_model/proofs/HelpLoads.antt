@@ -18,11 +18,11 @@ use Rattle.core_model.specs.State.{Memory, State, write}
 use Rattle.core_model.specs.Act.{same_place}
 use Rattle.core_model.specs.Fact.{reads, linked, stands_at, is_old_tail}
 use Rattle.core_model.specs.Step.{stepped, step_with, step_at}
-use Rattle.core_model.specs.Facts.{Holds, AtPoint}
+use Rattle.core_model.specs.Facts.{IsDecidedBehind, Holds, AtPoint}
 use Rattle.core_model.specs.Ghost.{Stage, unused, waiting, decided, Ghost, World, positions, at}
 use Rattle.core_model.specs.Lawful.{Lawful}
 use Rattle.core_model.proofs.Puts.{put_here, put_else, put_all}
-use Rattle.core_model.proofs.Stable.{world, unused_decides, waits_decides, one_position, one_some, some_none, anns_moved, Rely}
+use Rattle.core_model.proofs.Stable.{third, world, unused_decides, waits_decides, one_position, one_some, some_none, anns_moved, Rely}
 use Rattle.core_model.proofs.Preserves.{caller_stable, known, stutters, point_changes, changed}
 use Rattle.core_model.proofs.Tails.{exchanges, with_memory}
 use Rattle.core_model.proofs.Lookups.{on_list, next_found}
@@ -73,11 +73,11 @@ module _ (z : LaneSizes) (s : State) (L : Lawful z s) (c : ℕ) where
       (
         f.here.1.0,
         (
-          f.here.1.1.0,
+          (third f.here),
           (
             (
               f.call.0.installed,
-              λ i e. let on = f.here.0 in let below = on.2.0 in let count = on.1 in let late = f.here.1.0 in (
+              λ i e. let on = f.here.0 in let below = on.on.inside in let count = on.count in let late = f.here.1.0 in (
                 omega arith,
                 λ j d. let late_tail = (L.announced.unrecorded h.ann j d is).1 in let b = L.announced.bound h.ann j d in let some = b.some in let within = b.within in omega arith,
               ),
@@ -89,7 +89,7 @@ module _ (z : LaneSizes) (s : State) (L : Lawful z s) (c : ℕ) where
     );
   }
   old_tail_loaded h p (Some q) is f = let d = decided_known z s L h.ann q f.call.0.installed is in
-      stutters z s L c (point.Help h (help.LoadTailOver q)) (AnnWord h.ann field.OldTail) (OfOldTail (Some q)) (ap OfOldTail is) (record { call = f.call; here = ((d.0, d.1, is), tt) })
+      stutters z s L c (point.Help h (help.LoadTailOver q)) (AnnWord h.ann field.OldTail) (OfOldTail (Some q)) (ap OfOldTail is) (record { call = f.call; here = (record { position = d.0; is_decided = d.1; old_tail = is }, tt) })
 
   pub preserves_help_old_tail : (h : Help) (p : Place) → (s.callers c).point ≡ point.Help h (help.LoadOldTail p) → Lawful z (step_at z s c (point.Help h (help.LoadOldTail p)))
   preserves_help_old_tail h p is = old_tail_loaded h p (s.memory.old_tail h.ann) refl (known z s L c (point.Help h (help.LoadOldTail p)) is)
@@ -98,19 +98,19 @@ module _ (z : LaneSizes) (s : State) (L : Lawful z s) (c : ℕ) where
   chain_seen : (h : Help) (p : Place) → Holds z (world s L.ghost) c (reads 4 h) → Holds z (world s L.ghost) c (linked p) → Holds z (world s L.ghost) c (stands_at h.ann p) → s.memory.link p.row ≡ Chain h.first
       → Holds z (world s L.ghost) c (is_old_tail h.ann p)
   chain_seen h p r on stood is = (r.installed, λ at_head. by at_head (G.stage h.ann) refl) where
-    next : (suc on.0 < positions G) × (G.chained on.0 ≡ true)
-    next = (next_found z s L c p h.first true on is).1 on.0 on.1
+    next : (suc on.position < positions G) × (G.chained on.position ≡ true)
+    next = (next_found z s L c p h.first true on is).1 on.position on.count
 
-    first_is : G.path (suc on.0) ≡ (s.memory.notice h.ann).first
-    first_is = ((next_found z s L c p h.first true on is).0.2 on.0 on.1).1 ∙ sym (r.first (omega arith))
+    first_is : G.path (suc on.position) ≡ (s.memory.notice h.ann).first
+    first_is = ((next_found z s L c p h.first true on is).0.there on.position on.count).1 ∙ sym (r.first (omega arith))
 
-    by : G.ann ≡ Some h.ann → (x : Stage) → G.stage h.ann ≡ x → (i : ℕ) × (G.stage h.ann ≡ decided i) × (i < positions G) × (p ≡ at z.first G.path i)
+    by : G.ann ≡ Some h.ann → (x : Stage) → G.stage h.ann ≡ x → IsDecidedBehind z (world s L.ghost) h.ann p
     by at_head unused e = absurd (r.installed e)
-    by at_head waiting e = let P = L.pending h.ann e in let from = stood.1 at_head in let count = on.1 in let below = next.0 in
-        absurd (some_none (sym (L.list.rows.spots (suc on.0) (omega arith) (omega arith)) ∙ (ap G.spot (first_is ∙ sym P.starts) ∙ P.unlinked 0 P.some)))
-    by at_head (decided i) e = let from = stood.1 at_head in let count = on.1 in let below = next.0 in let b = L.announced.bound h.ann i e in let some = b.some in let within = b.within in let after = (L.announced.standing h.ann i at_head e).from in
-        let same = one_some (sym (L.list.rows.spots (suc i) (omega arith) (omega arith)) ∙ (ap G.spot (b.starts ∙ sym first_is) ∙ L.list.rows.spots (suc on.0) (omega arith) (omega arith))) in let here : on.0 ≡ i = omega arith in
-        (i, e, omega arith, λ y. record { row = (sym on.2.2 ∙ ap G.path here) y; count = (on.1 ∙ ap (λ (x : ℕ). z.first + x) here) y })
+    by at_head waiting e = let P = L.pending h.ann e in let from = stood.1 at_head in let count = on.count in let below = next.0 in
+        absurd (some_none (sym (L.list.rows.spots (suc on.position) (omega arith) (omega arith)) ∙ (ap G.spot (first_is ∙ sym P.starts) ∙ P.unlinked 0 P.some)))
+    by at_head (decided i) e = let from = stood.1 at_head in let count = on.count in let below = next.0 in let b = L.announced.bound h.ann i e in let some = b.some in let within = b.within in let after = (L.announced.standing h.ann i at_head e).from in
+        let same = one_some (sym (L.list.rows.spots (suc i) (omega arith) (omega arith)) ∙ (ap G.spot (b.starts ∙ sym first_is) ∙ L.list.rows.spots (suc on.position) (omega arith) (omega arith))) in let here : on.position ≡ i = omega arith in
+        record { position = i; is_decided = e; inside = omega arith; place = λ y. record { row = (sym on.on.row ∙ ap G.path here) y; count = (on.count ∙ ap (λ (x : ℕ). z.first + x) here) y } }
 
   help_linked : (h : Help) (p : Place) (x : LinkWord) → s.memory.link p.row ≡ x → AtPoint z (world s L.ghost) c (s.callers c) (point.Help h (help.LoadLink p)) → Lawful z (step_with z s c (point.Help h (help.LoadLink p)) (OfLink x))
   help_linked h p Nil is f = stutters z s L c (point.Help h (help.LinkChain p)) (Link p.row) (OfLink Nil) (ap OfLink is) f
@@ -118,7 +118,7 @@ module _ (z : LaneSizes) (s : State) (L : Lawful z s) (c : ℕ) where
       stutters z s L c (point.Help h (help.PassTail p n)) (Link p.row) (OfLink (Single n)) (ap OfLink is) (record { call = f.call; here = (next.0, (next.1, tt)) })
   help_linked h p (Chain n) is f = by (eqb n h.first) refl where
     by : (b : Bool) → eqb n h.first ≡ b → Lawful z (changed s c (write s.memory (Link p.row) (OfLink (Chain n))) s.history (stepped (s.callers c) (point.Help h (cond b (help.RecordTail p) help.LoadTail))))
-    by true e = stutters z s L c (point.Help h (help.RecordTail p)) (Link p.row) (OfLink (Chain n)) (ap OfLink is) (record { call = f.call; here = (chain_seen h p f.call.0 f.here.0 f.here.1.1.0 (is ∙ ap Chain (eqb-true n h.first e)), tt) })
+    by true e = stutters z s L c (point.Help h (help.RecordTail p)) (Link p.row) (OfLink (Chain n)) (ap OfLink is) (record { call = f.call; here = (chain_seen h p f.call.0 f.here.0 (third f.here) (is ∙ ap Chain (eqb-true n h.first e)), tt) })
     by false e = stutters z s L c (point.Help h help.LoadTail) (Link p.row) (OfLink (Chain n)) (ap OfLink is) (record { call = f.call; here = tt })
   help_linked h p Shut is f = stutters z s L c (point.Help h help.LoadTail) (Link p.row) (OfLink Shut) (ap OfLink is) (record { call = f.call; here = tt })
 
@@ -134,7 +134,7 @@ module _ (z : LaneSizes) (s : State) (L : Lawful z s) (c : ℕ) where
     placed : (i : ℕ) × (G.stage a ≡ decided i) × (p ≡ at z.first G.path i)
     placed = by (G.stage a) refl where
       stood : G.ann ≡ Some a → (i : ℕ) × (G.stage a ≡ decided i) × (p ≡ at z.first G.path i)
-      stood at_head = let x = old.1 at_head in (x.0, x.1, x.3)
+      stood at_head = let x = old.1 at_head in (x.position, x.is_decided, x.place)
 
       by : (x : Stage) → G.stage a ≡ x → (i : ℕ) × (G.stage a ≡ decided i) × (p ≡ at z.first G.path i)
       by unused e = absurd (old.0 e)
@@ -161,7 +161,7 @@ module _ (z : LaneSizes) (s : State) (L : Lawful z s) (c : ℕ) where
       path_same = λ _ _. refl;
       chained_same = λ _ _. refl;
       spot_own = λ _ u _. u;
-      on_same = λ i r on. (on.1, on.3, refl);
+      on_same = λ i r on. (on.spot, on.link, refl);
       link_own = λ _ _ _. refl;
       value_own = λ _ _ _. refl;
       value_path = λ _ _ _. refl;
@@ -197,9 +197,9 @@ module _ (z : LaneSizes) (s : State) (L : Lawful z s) (c : ℕ) where
   tail_recorded : (h : Help) (p : Place) (x : Option Place) → s.memory.old_tail h.ann ≡ x → (s.callers c).point ≡ point.Help h (help.RecordTail p) → Lawful z (step_with z s c (point.Help h (help.RecordTail p)) (OfOldTail x))
   tail_recorded h p None at_none is = let f = known z s L c (point.Help h (help.RecordTail p)) is in let m : Memory = record s.memory { old_tail = put s.memory.old_tail h.ann (Some p) } in let s' : State = record { memory = m; history = s.history; callers = s.callers } in
       let L' : Lawful z s' = recorded h.ann p f.here.0 at_none in let k = known z s' L' c (point.Help h (help.RecordTail p)) is in let known_tail = put_here s.memory.old_tail h.ann (Some p) in let d = decided_known z s' L' h.ann p k.call.0.installed known_tail in
-      point_changes z s' L' c (point.Help h (help.LoadTailOver p)) (record { call = k.call; here = ((d.0, d.1, known_tail), tt) })
+      point_changes z s' L' c (point.Help h (help.LoadTailOver p)) (record { call = k.call; here = (record { position = d.0; is_decided = d.1; old_tail = known_tail }, tt) })
   tail_recorded h p (Some q) at_some is = let f = known z s L c (point.Help h (help.RecordTail p)) is in let d = decided_known z s L h.ann q f.call.0.installed at_some in
-      stutters z s L c (point.Help h (help.LoadTailOver q)) (AnnWord h.ann field.OldTail) (OfOldTail (Some q)) (ap OfOldTail at_some) (record { call = f.call; here = ((d.0, d.1, at_some), tt) })
+      stutters z s L c (point.Help h (help.LoadTailOver q)) (AnnWord h.ann field.OldTail) (OfOldTail (Some q)) (ap OfOldTail at_some) (record { call = f.call; here = (record { position = d.0; is_decided = d.1; old_tail = at_some }, tt) })
 
   pub preserves_record_tail : (h : Help) (p : Place) → (s.callers c).point ≡ point.Help h (help.RecordTail p) → Lawful z (step_at z s c (point.Help h (help.RecordTail p)))
   preserves_record_tail h p is = tail_recorded h p (s.memory.old_tail h.ann) refl is

@@ -28,7 +28,7 @@ use Rattle.core_model.specs.Step.{stepped, step_with, step_at}
 use Rattle.core_model.specs.Facts.{Holds, Each, AtPoint}
 use Rattle.core_model.specs.Ghost.{waiting, decided, Ghost, World, joint, at}
 use Rattle.core_model.specs.Lawful.{head_word, LinksIn, Bound, Announced, Lawful}
-use Rattle.core_model.proofs.Stable.{world, waits_decides, one_position, one_some, some_none, anns_same, anns_moved, Rely}
+use Rattle.core_model.proofs.Stable.{third, world, waits_decides, one_position, one_some, some_none, anns_same, anns_moved, Rely}
 use Rattle.core_model.proofs.Preserves.{caller_stable, known, stutters, point_changes, changed, same_places, drafts_same}
 use Rattle.core_model.proofs.Announces.{stages_moved}
 use Rattle.core_model.proofs.Lookups.{ann_stands, not_ann}
@@ -58,14 +58,14 @@ module _ (z : LaneSizes) (s : State) (L : Lawful z s) (c : ℕ) where
   -- and after the help, where the announcement has left HEAD
   goes_back : (h : Help) (b : Back) → (L.ghost.ann ≡ Some h.ann → ⊥) → Holds z (world s L.ghost) c (reads 4 h) → Holds z (world s L.ghost) c (tail_over h.ann) → Each z (world s L.ghost) c (back_facts c (command (s.callers c)) h.ann b)
       → AtPoint z (world s L.ghost) c (stepped (s.callers c) (back_point h b)) (back_point h b)
-  goes_back h back.Own gone reading t rest = record { call = (((rest.0.2 t.0 t.1).0, λ x at_x own. gone (at_x ∙ ap Some (rest.0.3 x at_x own))), tt); here = (reading, (t, rest)) }
+  goes_back h back.Own gone reading t rest = record { call = (((rest.0.stands t.position t.is_decided).0, λ x at_x own. gone (at_x ∙ ap Some (rest.0.only x at_x own))), tt); here = (reading, (t, rest)) }
   goes_back h (back.Enqueue x) gone reading t rest = record { call = rest; here = tt }
   goes_back h back.Dequeue gone reading t rest = record { call = rest; here = tt }
   goes_back h (back.Batch d) gone reading t rest = record { call = (rest.0, (rest.1.0, tt)); here = rest.1.1 }
 
   -- the walk begins
   module _ (h : Help) (q : Place) (reading : Holds z (world s L.ghost) c (reads 4 h)) (old : Holds z (world s L.ghost) c (old_tail_is h.ann q))
-      (over : L.ghost.ann ≡ Some h.ann → old.0 + (s.memory.notice h.ann).counts.enqs ≤ L.ghost.tail) (rest : Each z (world s L.ghost) c (back_facts c (command (s.callers c)) h.ann h.back)) where
+      (over : L.ghost.ann ≡ Some h.ann → old.position + (s.memory.notice h.ann).counts.enqs ≤ L.ghost.tail) (rest : Each z (world s L.ghost) c (back_facts c (command (s.callers c)) h.ann h.back)) where
     abbrev G : Ghost
     G = L.ghost
 
@@ -76,18 +76,18 @@ module _ (z : LaneSizes) (s : State) (L : Lawful z s) (c : ℕ) where
     m = gets h.counts (before_it h q)
 
     abbrev i : ℕ
-    i = old.0
+    i = old.position
 
-    B : Bound z.first G.path G.chained G.cause (G.head + G.rest) G.tail (s.memory.notice h.ann) h.ann old.0
-    B = L.announced.bound h.ann old.0 old.1
+    B : Bound z.first G.path G.chained G.cause (G.head + G.rest) G.tail (s.memory.notice h.ann) h.ann old.position
+    B = L.announced.bound h.ann old.position old.is_decided
 
-    q_is : q ≡ at z.first G.path old.0
-    q_is = L.announced.recorded h.ann old.0 q old.1 old.2
+    q_is : q ≡ at z.first G.path old.position
+    q_is = L.announced.recorded h.ann old.position q old.is_decided old.old_tail
 
     old_head_is : h.old_head ≡ at z.first G.path B.old_dummy.0
     old_head_is = sym (reading.old_head (omega arith)) ∙ B.old_dummy.1
 
-    n_is : n ≡ old.0 - B.old_dummy.0
+    n_is : n ≡ old.position - B.old_dummy.0
     n_is = let qc = ap (λ (p : Place). p.count) q_is in let hc = ap (λ (p : Place). p.count) old_head_is in omega arith
 
     counts_is : (s.memory.notice h.ann).counts ≡ h.counts
@@ -98,32 +98,32 @@ module _ (z : LaneSizes) (s : State) (L : Lawful z s) (c : ℕ) where
     dummy_is at_head = let e = ap (λ (p : Place). p.count) (sym B.old_dummy.1 ∙ L.announced.old_head h.ann at_head) in omega arith
 
     so_many : Holds z (world s L.ghost) c (gets_so_many h m)
-    so_many = (
-      old.0,
-      old.1,
-      (λ at_head. (L.announced.standing h.ann old.0 at_head old.1).shows ∙ (λ y. gets (counts_is y) ((let e = n_is in let d = dummy_is at_head in let f : old.0 - G.head ≡ n = omega arith in f) y))),
-      let e = n_is in let covered = B.covered in let within = B.within in let before = B.old_dummy.2 in let hc = ap (λ (p : Place). p.count) old_head_is in
-          let enqs = ap (λ (y : BatchCounts). y.enqs) counts_is in let deqs = ap (λ (y : BatchCounts). y.deqs) counts_is in let excess = ap (λ (y : BatchCounts). y.excess) counts_is in omega arith,
-    )
+    so_many = record {
+      position = old.position;
+      is_decided = old.is_decided;
+      shown = (λ at_head. (L.announced.standing h.ann old.position at_head old.is_decided).shows ∙ (λ y. gets (counts_is y) ((let e = n_is in let d = dummy_is at_head in let f : old.position - G.head ≡ n = omega arith in f) y)));
+      inside = let e = n_is in let covered = B.covered in let within = B.within in let before = B.old_dummy.2 in let hc = ap (λ (p : Place). p.count) old_head_is in
+          let enqs = ap (λ (y : BatchCounts). y.enqs) counts_is in let deqs = ap (λ (y : BatchCounts). y.deqs) counts_is in let excess = ap (λ (y : BatchCounts). y.excess) counts_is in omega arith;
+    }
 
     tails : Holds z (world s L.ghost) c (tail_over h.ann)
-    tails = (old.0, old.1, (q, old.2), over)
+    tails = record { position = old.position; is_decided = old.is_decided; known = (q, old.old_tail); past = over }
 
     begins : (b : Bool) → ltb m n ≡ b → AtPoint z (world s L.ghost) c (stepped (s.callers c) (point.Help h (cond b (walk_on m h.old_head.row m) (walk_on m q.row (m - n))))) (point.Help h (cond b (walk_on m h.old_head.row m) (walk_on m q.row (m - n))))
-    begins true _ = let within = B.within in let before = B.old_dummy.2 in let row = ap (λ (p : Place). p.row) old_head_is in on_walk h m h.old_head.row m reading (
-      old.0,
-      old.1,
-      subst (λ (r : ℕ). r < z.rows) (sym row) (L.list.rows.inside B.old_dummy.0 (omega arith)),
-      λ at_head. let g = so_many.2 at_head in
-          (0, omega arith, omega arith, ap G.path (let d = dummy_is at_head in let e : G.head + 0 ≡ B.old_dummy.0 = omega arith in e) ∙ sym row),
-    ) so_many tails rest
-    begins false less = let within = B.within in let row = ap (λ (p : Place). p.row) q_is in on_walk h m q.row (m - n) reading (
-      old.0,
-      old.1,
-      subst (λ (r : ℕ). r < z.rows) (sym row) (L.list.rows.inside old.0 (omega arith)),
-      λ at_head. let g = so_many.2 at_head in let from = (L.announced.standing h.ann old.0 at_head old.1).from in let e = n_is in let d = dummy_is at_head in
-          (n, (let ge = more in omega arith), omega arith, ap G.path (let f : G.head + n ≡ old.0 = omega arith in f) ∙ sym row),
-    ) so_many tails rest where
+    begins true _ = let within = B.within in let before = B.old_dummy.2 in let row = ap (λ (p : Place). p.row) old_head_is in on_walk h m h.old_head.row m reading (record {
+      position = old.position;
+      is_decided = old.is_decided;
+      inside = subst (λ (r : ℕ). r < z.rows) (sym row) (L.list.rows.inside B.old_dummy.0 (omega arith));
+      lies = λ at_head. let g = so_many.shown at_head in
+          record { behind = 0; sum = omega arith; inside = omega arith; row = ap G.path (let d = dummy_is at_head in let e : G.head + 0 ≡ B.old_dummy.0 = omega arith in e) ∙ sym row };
+    }) so_many tails rest
+    begins false less = let within = B.within in let row = ap (λ (p : Place). p.row) q_is in on_walk h m q.row (m - n) reading (record {
+      position = old.position;
+      is_decided = old.is_decided;
+      inside = subst (λ (r : ℕ). r < z.rows) (sym row) (L.list.rows.inside old.position (omega arith));
+      lies = λ at_head. let g = so_many.shown at_head in let from = (L.announced.standing h.ann old.position at_head old.is_decided).from in let e = n_is in let d = dummy_is at_head in
+          record { behind = n; sum = (let ge = more in omega arith); inside = omega arith; row = ap G.path (let f : G.head + n ≡ old.position = omega arith in f) ∙ sym row };
+    }) so_many tails rest where
       more : n ≤ m
       more = dite (dec_le n m) (λ l. l) (λ no. absurd (differ (sym (lt-ltb m n (omega arith)) ∙ less)))
 
@@ -138,7 +138,7 @@ module _ (z : LaneSizes) (s : State) (L : Lawful z s) (c : ℕ) where
       → Lawful z (changed s c (write s.memory Tail (OfTail s.memory.tail)) s.history (stepped (s.callers c) (point.Help h (cond b (help.MoveTailOver q) (walk h q)))))
   over_loaded h q true is f = stutters z s L c (point.Help h (help.MoveTailOver q)) Tail (OfTail s.memory.tail) refl (record { call = f.call; here = f.here })
   over_loaded h q false is f = stutters z s L c (point.Help h (walk h q)) Tail (OfTail s.memory.tail) refl
-      (walk_begins z s L c h q f.call.0 f.here.0 (past_old z s L h.ann f.here.0.0 q f.here.0.1 f.here.0.2 (λ e. differ (sym (same_place_refl s.memory.tail q e) ∙ is))) f.call.1)
+      (walk_begins z s L c h q f.call.0 f.here.0 (past_old z s L h.ann f.here.0.position q f.here.0.is_decided f.here.0.old_tail (λ e. differ (sym (same_place_refl s.memory.tail q e) ∙ is))) f.call.1)
 
   pub preserves_help_over : (h : Help) (q : Place) → (s.callers c).point ≡ point.Help h (help.LoadTailOver q) → Lawful z (step_at z s c (point.Help h (help.LoadTailOver q)))
   preserves_help_over h q is = over_loaded h q (same_place s.memory.tail q) refl (known z s L c (point.Help h (help.LoadTailOver q)) is)
@@ -151,11 +151,11 @@ module _ (z : LaneSizes) (s : State) (L : Lawful z s) (c : ℕ) where
     abbrev enqs : ℕ
     enqs = (s.memory.notice h.ann).counts.enqs
 
-    BO : Bound z.first L.ghost.path L.ghost.chained L.ghost.cause (L.ghost.head + L.ghost.rest) L.ghost.tail (s.memory.notice h.ann) h.ann old.0
-    BO = L.announced.bound h.ann old.0 old.1
+    BO : Bound z.first L.ghost.path L.ghost.chained L.ghost.cause (L.ghost.head + L.ghost.rest) L.ghost.tail (s.memory.notice h.ann) h.ann old.position
+    BO = L.announced.bound h.ann old.position old.is_decided
 
-    tail_is : L.ghost.tail ≡ old.0
-    tail_is = let e = ap (λ (p : Place). p.count) (sym L.list.tail.named ∙ (is ∙ L.announced.recorded h.ann old.0 q old.1 old.2)) in omega arith
+    tail_is : L.ghost.tail ≡ old.position
+    tail_is = let e = ap (λ (p : Place). p.count) (sym L.list.tail.named ∙ (is ∙ L.announced.recorded h.ann old.position q old.is_decided old.old_tail)) in omega arith
 
     lag : (x : ℕ) × (L.ghost.stage x ≡ decided L.ghost.tail) × (L.ghost.ann ≡ Some x) × (L.ghost.head + L.ghost.rest ≤ L.ghost.tail + (s.memory.notice x).counts.enqs)
     lag = let t = tail_is in let some = BO.some in let within = BO.within in L.announced.lags (omega arith) (ap L.ghost.chained t ∙ BO.by_chain)
@@ -190,7 +190,7 @@ module _ (z : LaneSizes) (s : State) (L : Lawful z s) (c : ℕ) where
       path_same = λ _ _. refl;
       chained_same = λ _ _. refl;
       spot_own = λ _ u _. u;
-      on_same = λ i r on. (on.1, on.3, refl);
+      on_same = λ i r on. (on.spot, on.link, refl);
       link_own = λ _ _ _. refl;
       value_own = λ _ _ _. refl;
       value_path = λ _ _ _. refl;
@@ -219,8 +219,8 @@ module _ (z : LaneSizes) (s : State) (L : Lawful z s) (c : ℕ) where
       };
       announced = stages_moved z.first (z.callers * z.callers) G0.stage G0.ann s.memory.notice s.memory.old_tail G0.path G0.path G0.chained G0.chained G0.cause G0.head G0.head (G0.head + G0.rest) (G0.head + G0.rest) G0.shown G0.shown G0.tail (G0.tail + enqs)
           (le_refl _) (omega arith) (λ _ _. refl) (λ _ _. refl) (omega arith) (λ _ _. (refl, refl))
-          (λ x i at_head d. inr (subst (λ (y : ℕ). i + (s.memory.notice y).counts.enqs ≤ G0.tail + enqs) (sym (alone x at_head)) (let same = one_position (ap G0.stage (sym (alone x at_head)) ∙ d) old.1 in omega arith)))
-          (λ x i d none. absurd (some_none (sym old.2 ∙ (ap s.memory.old_tail (sym (alone x (L.announced.unrecorded x i d none).0)) ∙ none))))
+          (λ x i at_head d. inr (subst (λ (y : ℕ). i + (s.memory.notice y).counts.enqs ≤ G0.tail + enqs) (sym (alone x at_head)) (let same = one_position (ap G0.stage (sym (alone x at_head)) ∙ d) old.is_decided in omega arith)))
+          (λ x i d none. absurd (some_none (sym old.old_tail ∙ (ap s.memory.old_tail (sym (alone x (L.announced.unrecorded x i d none).0)) ∙ none))))
           (λ below _. absurd (omega arith)) L.announced;
       told = L.told;
       pending = L.pending;
@@ -233,32 +233,32 @@ module _ (z : LaneSizes) (s : State) (L : Lawful z s) (c : ℕ) where
       let s' : State = record { memory = record s.memory { tail = far_behind q h.last h.counts.enqs }; history = s.history; callers = s.callers } in
       let V : Lawful z s' = went_over h q f.call.0 f.here.0 there in let g = known z s' V c (point.Help h (help.MoveTailOver q)) is in
       (point_changes z s' V c (point.Help h (walk h q)) (walk_begins z s' V c h q g.call.0 g.here.0
-      (past_old z s' V h.ann g.here.0.0 q g.here.0.1 g.here.0.2 (λ e. let some = (V.announced.bound h.ann g.here.0.0 g.here.0.1).some in let enqs = ap (λ (y : BatchCounts). y.enqs) (g.call.0.counts (omega arith)) in let count : q.count + h.counts.enqs ≡ q.count = ap (λ (p : Place). p.count) e in absurd (omega arith))) g.call.1))
+      (past_old z s' V h.ann g.here.0.position q g.here.0.is_decided g.here.0.old_tail (λ e. let some = (V.announced.bound h.ann g.here.0.position g.here.0.is_decided).some in let enqs = ap (λ (y : BatchCounts). y.enqs) (g.call.0.counts (omega arith)) in let count : q.count + h.counts.enqs ≡ q.count = ap (λ (p : Place). p.count) e in absurd (omega arith))) g.call.1))
   over_moved h q false same is = let f = known z s L c (point.Help h (help.MoveTailOver q)) is in stutters z s L c (point.Help h (walk h q)) Tail (OfTail s.memory.tail) refl
-      (walk_begins z s L c h q f.call.0 f.here.0 (past_old z s L h.ann f.here.0.0 q f.here.0.1 f.here.0.2 (λ e. differ (sym (same_place_refl s.memory.tail q e) ∙ same))) f.call.1)
+      (walk_begins z s L c h q f.call.0 f.here.0 (past_old z s L h.ann f.here.0.position q f.here.0.is_decided f.here.0.old_tail (λ e. differ (sym (same_place_refl s.memory.tail q e) ∙ same))) f.call.1)
 
   pub preserves_move_tail_over : (h : Help) (q : Place) → (s.callers c).point ≡ point.Help h (help.MoveTailOver q) → Lawful z (step_at z s c (point.Help h (help.MoveTailOver q)))
   preserves_move_tail_over h q is = over_moved h q (same_place s.memory.tail q) refl is
 
   -- one link of the walk, to the row n
   walk_next : (a r l n : ℕ) → n < z.rows → ((b : Bool) (x : ℕ) → joint b x ≡ s.memory.link r → x ≡ n) → Holds z (world s L.ghost) c (walks a r (suc l)) → Holds z (world s L.ghost) c (walks a n l)
-  walk_next a r l n inside same w = (
-    w.0,
-    w.1,
-    inside,
-    λ at_head. let x = w.3 at_head in let sum = x.1 in let fits = L.list.head.fits in (
-      suc x.0,
-      omega arith,
-      omega arith,
-      ap G0.path (let e : G0.head + suc x.0 ≡ suc (G0.head + x.0) = omega arith in e)
-          ∙ same (G0.chained (G0.head + x.0)) (G0.path (suc (G0.head + x.0))) (sym (L.list.rows.joined (G0.head + x.0) (omega arith) (omega arith)) ∙ ap s.memory.link x.3),
-    ),
-  )
+  walk_next a r l n inside same w = record {
+    position = w.position;
+    is_decided = w.is_decided;
+    inside = inside;
+    lies = λ at_head. let x = w.lies at_head in let sum = x.sum in let fits = L.list.head.fits in record {
+      behind = suc x.behind;
+      sum = omega arith;
+      inside = omega arith;
+      row = ap G0.path (let e : G0.head + suc x.behind ≡ suc (G0.head + x.behind) = omega arith in e)
+          ∙ same (G0.chained (G0.head + x.behind)) (G0.path (suc (G0.head + x.behind))) (sym (L.list.rows.joined (G0.head + x.behind) (omega arith) (omega arith)) ∙ ap s.memory.link x.row);
+    };
+  }
 
   -- where the row of a walk has no link, the announcement has left HEAD
   walk_over : (h : Help) (r l : ℕ) → ((b : Bool) (x : ℕ) → joint b x ≡ s.memory.link r → ⊥) → Holds z (world s L.ghost) c (walks h.ann r (suc l)) → L.ghost.ann ≡ Some h.ann → ⊥
-  walk_over h r l never w at_head = let x = w.3 at_head in let sum = x.1 in let fits = L.list.head.fits in
-      never (G0.chained (G0.head + x.0)) (G0.path (suc (G0.head + x.0))) (sym (L.list.rows.joined (G0.head + x.0) (omega arith) (omega arith)) ∙ ap s.memory.link x.3)
+  walk_over h r l never w at_head = let x = w.lies at_head in let sum = x.sum in let fits = L.list.head.fits in
+      never (G0.chained (G0.head + x.behind)) (G0.path (suc (G0.head + x.behind))) (sym (L.list.rows.joined (G0.head + x.behind) (omega arith) (omega arith)) ∙ ap s.memory.link x.row)
 
   joint_nil : (b : Bool) (x : ℕ) → joint b x ≡ Nil → ⊥
   joint_nil true x e = cc e
@@ -269,15 +269,15 @@ module _ (z : LaneSizes) (s : State) (L : Lawful z s) (c : ℕ) where
   joint_shut false x e = cc e
 
   link_walked : (h : Help) (m r l : ℕ) (x : LinkWord) → s.memory.link r ≡ x → AtPoint z (world s L.ghost) c (s.callers c) (point.Help h (help.LoadWalk m r l)) → Lawful z (step_with z s c (point.Help h (help.LoadWalk m r l)) (OfLink x))
-  link_walked h m r l Nil is f = stutters z s L c (back_point h h.back) (Link r) (OfLink Nil) (ap OfLink is) (goes_back z s L c h h.back (walk_over h r l (λ b x e. joint_nil b x (e ∙ is)) f.here.0) f.call.0 f.here.1.1.0 f.call.1)
-  link_walked h m r l Shut is f = stutters z s L c (back_point h h.back) (Link r) (OfLink Shut) (ap OfLink is) (goes_back z s L c h h.back (walk_over h r l (λ b x e. joint_shut b x (e ∙ is)) f.here.0) f.call.0 f.here.1.1.0 f.call.1)
+  link_walked h m r l Nil is f = stutters z s L c (back_point h h.back) (Link r) (OfLink Nil) (ap OfLink is) (goes_back z s L c h h.back (walk_over h r l (λ b x e. joint_nil b x (e ∙ is)) f.here.0) f.call.0 (third f.here) f.call.1)
+  link_walked h m r l Shut is f = stutters z s L c (back_point h h.back) (Link r) (OfLink Shut) (ap OfLink is) (goes_back z s L c h h.back (walk_over h r l (λ b x e. joint_shut b x (e ∙ is)) f.here.0) f.call.0 (third f.here) f.call.1)
   link_walked h m r l (Single n) is f = stutters z s L c (point.Help h (walk_on m n l)) (Link r) (OfLink (Single n)) (ap OfLink is)
-      (on_walk z s L c h m n l f.call.0 (walk_next h.ann r l n (subst (LinksIn z.rows) is (L.list.links r)) (λ b x e. names b x (e ∙ is)) f.here.0) f.here.1.0 f.here.1.1.0 f.call.1) where
+      (on_walk z s L c h m n l f.call.0 (walk_next h.ann r l n (subst (LinksIn z.rows) is (L.list.links r)) (λ b x e. names b x (e ∙ is)) f.here.0) f.here.1.0 (third f.here) f.call.1) where
         names : (b : Bool) (x : ℕ) → joint b x ≡ Single n → x ≡ n
         names true x e = absurd (cc e)
         names false x e = cc e
   link_walked h m r l (Chain n) is f = stutters z s L c (point.Help h (walk_on m n l)) (Link r) (OfLink (Chain n)) (ap OfLink is)
-      (on_walk z s L c h m n l f.call.0 (walk_next h.ann r l n (subst (LinksIn z.rows) is (L.list.links r)) (λ b x e. names b x (e ∙ is)) f.here.0) f.here.1.0 f.here.1.1.0 f.call.1) where
+      (on_walk z s L c h m n l f.call.0 (walk_next h.ann r l n (subst (LinksIn z.rows) is (L.list.links r)) (λ b x e. names b x (e ∙ is)) f.here.0) f.here.1.0 (third f.here) f.call.1) where
         names : (b : Bool) (x : ℕ) → joint b x ≡ Chain n → x ≡ n
         names true x e = cc e
         names false x e = absurd (cc e)
@@ -295,7 +295,7 @@ module _ (z : LaneSizes) (s : State) (L : Lawful z s) (c : ℕ) where
     one_there x e = one_some (sym e ∙ at_head)
 
     none_waits : (x : ℕ) → L.ghost.stage x ≡ waiting → ⊥
-    none_waits x e = waits_decides e (ap L.ghost.stage (one_there x (L.announced.waits x e).0) ∙ t.1)
+    none_waits x e = waits_decides e (ap L.ghost.stage (one_there x (L.announced.waits x e).0) ∙ t.is_decided)
 
     abbrev H : Ghost
     H = record L.ghost { head = L.ghost.head + L.ghost.shown; rest = L.ghost.queued; shown = 0; ann = None }
@@ -317,7 +317,7 @@ module _ (z : LaneSizes) (s : State) (L : Lawful z s) (c : ℕ) where
       path_same = λ _ _. refl;
       chained_same = λ _ _. refl;
       spot_own = λ _ u _. u;
-      on_same = λ i r on. (on.1, ((λ x. on.3.0 (omega arith)), λ x. on.3.1 (omega arith)), refl);
+      on_same = λ i r on. (on.spot, ((λ x. on.link.0 (omega arith)), λ x. on.link.1 (omega arith)), refl);
       link_own = λ _ _ _. refl;
       value_own = λ _ _ _. refl;
       value_path = λ _ _ _. refl;
@@ -326,10 +326,10 @@ module _ (z : LaneSizes) (s : State) (L : Lawful z s) (c : ℕ) where
     }
 
     row_is : r ≡ L.ghost.path (L.ghost.head + L.ghost.shown)
-    row_is = let x = w.3 at_head in let sum = x.1 in sym x.3 ∙ ap (λ (y : ℕ). L.ghost.path (L.ghost.head + y)) (let e : x.0 ≡ L.ghost.shown = omega arith in e)
+    row_is = let x = w.lies at_head in let sum = x.sum in sym x.row ∙ ap (λ (y : ℕ). L.ghost.path (L.ghost.head + y)) (let e : x.behind ≡ L.ghost.shown = omega arith in e)
 
     head_named : Node (far_behind h.old_head r m) ≡ Node (at z.first L.ghost.path (L.ghost.head + L.ghost.shown))
-    head_named = let count = ap (λ (p : Place). p.count) (sym (reading.old_head (omega arith)) ∙ L.announced.old_head h.ann at_head) in let shown = g.2 at_head in
+    head_named = let count = ap (λ (p : Place). p.count) (sym (reading.old_head (omega arith)) ∙ L.announced.old_head h.ann at_head) in let shown = g.shown at_head in
         λ i. Node (record { row = row_is i; count = (let e : h.old_head.count + m ≡ z.first + (L.ghost.head + L.ghost.shown) = omega arith in e) i })
 
     announced' : Announced z memory_head H
@@ -342,12 +342,12 @@ module _ (z : LaneSizes) (s : State) (L : Lawful z s) (c : ℕ) where
       standing = λ x i none. absurd (some_none (sym none));
       unknown = A.unknown;
       recorded = A.recorded;
-      unrecorded = λ x i d none. absurd (some_none (sym t.2.1 ∙ (ap s.memory.old_tail (sym (one_there x (A.unrecorded x i d none).0)) ∙ none)));
-      lags = λ below by. let x = A.lags (omega arith) by in let same = one_position (ap L.ghost.stage (sym (one_there x.0 x.2)) ∙ x.1) t.1 in let over = t.3 at_head in let some = (A.bound h.ann t.0 t.1).some in absurd (omega arith);
+      unrecorded = λ x i d none. absurd (some_none (sym t.known.1 ∙ (ap s.memory.old_tail (sym (one_there x (A.unrecorded x i d none).0)) ∙ none)));
+      lags = λ below by. let x = A.lags (omega arith) by in let same = one_position (ap L.ghost.stage (sym (one_there x.0 x.2)) ∙ x.1) t.is_decided in let over = t.past at_head in let some = (A.bound h.ann t.position t.is_decided).some in absurd (omega arith);
     }
 
     head_moved : Lawful z record { memory = record s.memory { head = Node (far_behind h.old_head r m) }; history = s.history; callers = s.callers }
-    head_moved = let e = same_end in let within = L.list.tail.within in let over = t.3 at_head in let inside = (L.announced.standing h.ann t.0 at_head t.1).inside in record {
+    head_moved = let e = same_end in let within = L.list.tail.within in let over = t.past at_head in let inside = (L.announced.standing h.ann t.position at_head t.is_decided).inside in record {
       ghost = H;
       history = L.history;
       queue = L.queue ∙ ap (λ (y : ℕ). run (λ i. s.memory.value (L.ghost.path i)) (suc y) L.ghost.queued) (let f : L.ghost.head + L.ghost.shown ≡ L.ghost.head + L.ghost.shown + 0 = omega arith in f);
@@ -380,12 +380,12 @@ module _ (z : LaneSizes) (s : State) (L : Lawful z s) (c : ℕ) where
 
   ann_found : (h : Help) (m r : ℕ) (x : HeadWord) → s.memory.head ≡ x → (b : Bool) → is_ann x h.ann h.old_head.count ≡ b → (s.callers c).point ≡ point.Help h (help.MoveHead m r)
       → Lawful z (changed s c (write s.memory Head (cond b (OfHead (Node (far_behind h.old_head r m))) (OfHead x))) s.history (stepped (s.callers c) (back_point h h.back)))
-  ann_found h m r x at_x false apart is = let f = known z s L c (point.Help h (help.MoveHead m r)) is in stutters z s L c (back_point h h.back) Head (OfHead x) (ap OfHead at_x) (goes_back z s L c h h.back (λ at_head. not_there h x at_x apart (f.call.0.old_head (omega arith)) at_head) f.call.0 f.here.1.1.0 f.call.1)
+  ann_found h m r x at_x false apart is = let f = known z s L c (point.Help h (help.MoveHead m r)) is in stutters z s L c (back_point h h.back) Head (OfHead x) (ap OfHead at_x) (goes_back z s L c h h.back (λ at_head. not_there h x at_x apart (f.call.0.old_head (omega arith)) at_head) f.call.0 (third f.here) f.call.1)
   ann_found h m r (Node p) at_x true e is = absurd (cc e)
   ann_found h m r (Ann y n) at_x true e is = let f = known z s L c (point.Help h (help.MoveHead m r)) is in let both = and_parts (eqb y h.ann) (eqb n h.old_head.count) e in
       let s' : State = record { memory = record s.memory { head = Node (far_behind h.old_head r m) }; history = s.history; callers = s.callers } in
-      let V : Lawful z s' = head_moved h m r n f.call.0 f.here.0 f.here.1.0 f.here.1.1.0 (at_x ∙ ap (λ (b : ℕ). Ann b n) (eqb-true y h.ann both.0)) in let g = known z s' V c (point.Help h (help.MoveHead m r)) is in
-      (point_changes z s' V c (back_point h h.back) (goes_back z s' V c h h.back (no_ann s' V h.ann (far_behind h.old_head r m) refl) g.call.0 g.here.1.1.0 g.call.1))
+      let V : Lawful z s' = head_moved h m r n f.call.0 f.here.0 f.here.1.0 (third f.here) (at_x ∙ ap (λ (b : ℕ). Ann b n) (eqb-true y h.ann both.0)) in let g = known z s' V c (point.Help h (help.MoveHead m r)) is in
+      (point_changes z s' V c (back_point h h.back) (goes_back z s' V c h h.back (no_ann s' V h.ann (far_behind h.old_head r m) refl) g.call.0 (third g.here) g.call.1))
 
   pub preserves_move_head_ann : (h : Help) (m r : ℕ) → (s.callers c).point ≡ point.Help h (help.MoveHead m r) → Lawful z (step_at z s c (point.Help h (help.MoveHead m r)))
   preserves_move_head_ann h m r is = ann_found h m r s.memory.head refl (is_ann s.memory.head h.ann h.old_head.count) refl is

@@ -1,16 +1,37 @@
 -- Each step of a help keeps the lane lawful.
-use Rattle.std.proofs.Common.{◌≡◌, ℕ}
+use Rattle.std.proofs.Common.{◌≡◌, ℕ, zero, suc, ◌-◌, ◌<◌, eqb, ltb, Bool, true, false, cond, Option, Some, None}
 use Rattle.core_model.specs.declared.point.Help.{Help}
 use Rattle.core_model.specs.declared.point.HelpPoint.{HelpPoint}
-use Rattle.core_model.specs.declared.point.HelpPoint.TheVariants as help
-use Rattle.core_model.specs.declared.point.Point.TheVariants as point
 use Rattle.core_model.specs.LaneSizes.{LaneSizes}
-use Rattle.core_model.specs.State.{State}
+use Rattle.core_model.specs.State.{State, tail_in}
 use Rattle.core_model.specs.Step.{step_at}
 use Rattle.core_model.specs.Lawful.{Lawful}
 use Rattle.core_model.proofs.HelpLoads.{preserves_help_old_head, preserves_help_first, preserves_help_last, preserves_help_counts, preserves_help_tail, preserves_help_old_tail, preserves_help_link, preserves_help_pass, preserves_record_tail}
 use Rattle.core_model.proofs.HelpMoves.{preserves_help_over, preserves_move_tail_over, preserves_help_walk, preserves_move_head_ann}
-use Rattle.core_model.proofs.Chains.{preserves_link_chain}
+use Rattle.core_model.proofs.ChainLink.{preserves_link_chain}
+use Rattle.bq_model.specs.declared.shape.Shape.{Shape}
+use Rattle.word_rows.specs.declared.place.Place.{Place}
+use Rattle.word_rows.specs.declared.head_word.HeadWord.TheVariants.{Node, Ann}
+use Rattle.word_rows.specs.declared.link_word.LinkWord.{LinkWord}
+use Rattle.word_rows.specs.declared.link_word.LinkWord.TheVariants.{Nil, Single, Chain, Shut}
+use Rattle.word_rows.specs.declared.location.Location.TheVariants.{Link, AnnWord}
+use Rattle.word_rows.specs.declared.content.Content.{Content}
+use Rattle.word_rows.specs.declared.content.Content.TheVariants.{OfHead, OfTail, OfLink, OfOldTail, OfChainEnd, OfCounts}
+use Rattle.word_rows.specs.Contents.{MayHold}
+use Rattle.word_rows.specs.Fits.{limits_of, PlaceFits}
+use Rattle.word_rows.specs.Sizes.{rows_of}
+use Rattle.core_model.specs.declared.point.Back.{Back}
+use Rattle.core_model.specs.Act.{same_place, location}
+use Rattle.core_model.specs.Batches.{gets}
+use Rattle.core_model.specs.Fits.{BackFits, HelpFits}
+use Rattle.core_model.specs.Coded.{PointFits, CourseFits}
+use Rattle.core_model.specs.Help.{help_of, before_it, walk_on, walk, back_point}
+use Rattle.core_model.proofs.Fitting.{no_place}
+use Rattle.core_model.specs.declared.point.HelpPoint.TheVariants as help
+use Rattle.core_model.specs.declared.point.Point.TheVariants as point
+use Rattle.word_rows.specs.declared.location.AnnField.TheVariants as field
+use Rattle.core_model.specs.declared.point.Back.TheVariants as back
+use Rattle.core_model.specs.Help as helping
 
 pub preserves_help : (z : LaneSizes) (s : State) (L : Lawful z s) (c : ℕ) (h : Help) (p : HelpPoint) → (s.callers c).point ≡ point.Help h p → Lawful z (step_at z s c (point.Help h p))
 preserves_help z s L c h help.LoadOldHead is = preserves_help_old_head z s L c h is
@@ -27,3 +48,61 @@ preserves_help z s L c h (help.LoadTailOver q) is = preserves_help_over z s L c 
 preserves_help z s L c h (help.MoveTailOver q) is = preserves_move_tail_over z s L c h q is
 preserves_help z s L c h (help.LoadWalk m r l) is = preserves_help_walk z s L c h m r l is
 preserves_help z s L c h (help.MoveHead m r) is = preserves_move_head_ann z s L c h m r is
+
+-- and it goes on with what fits
+module _ (s : Shape) where
+  old_tail_read : (p : Place) (x : Option Place) → (a f : ℕ) → PlaceFits (limits_of s) p → MayHold s (AnnWord a field.OldTail) (OfOldTail x) → helping.fits s (helping.after_old_tail p x)
+  old_tail_read p None a f b m = b
+  old_tail_read p (Some q) a f b m = m.1
+
+  tail_recorded : (p : Place) (x : Option Place) (a : ℕ) → PlaceFits (limits_of s) p → MayHold s (AnnWord a field.OldTail) (OfOldTail x) → helping.fits s (helping.after_record p x)
+  tail_recorded p None a b m = b
+  tail_recorded p (Some q) a b m = m.1
+
+  help_either : (b : Bool) (p q : HelpPoint) → helping.fits s p → helping.fits s q → helping.fits s (cond b p q)
+  help_either true p q a b = a
+  help_either false p q a b = b
+
+  help_link : (h : Help) (p : Place) (x : LinkWord) → PlaceFits (limits_of s) p → MayHold s (Link p.row) (OfLink x) → helping.fits s (helping.after_link h p x)
+  help_link h p Nil b m = b
+  help_link h p (Single n) b m = (b, m.1)
+  help_link h p (Chain n) b m = help_either (eqb n h.first) (help.RecordTail p) help.LoadTail b tt
+  help_link h p Shut b m = tt
+
+  walks_on : (n r l : ℕ) → r < rows_of s → helping.fits s (walk_on n r l)
+  walks_on n r zero b = b
+  walks_on n r (suc l) b = b
+
+  walks : (h : Help) (q : Place) → HelpFits s h → PlaceFits (limits_of s) q → helping.fits s (walk h q)
+  walks h q a b = let n = before_it h q in let m = gets h.counts (before_it h q) in
+      help_either (ltb m n) (walk_on m h.old_head.row m) (walk_on m q.row (m - n)) (walks_on m h.old_head.row m a.old_head.0) (walks_on m q.row (m - n) b.0)
+
+  goes_back : (h : Help) (b : Back) → HelpFits s h → BackFits s b → PointFits s (back_point h b)
+  goes_back h back.Own a f = a
+  goes_back h (back.Enqueue i) a f = (f, tt)
+  goes_back h back.Dequeue a f = tt
+  goes_back h (back.Batch d) a f = (f, tt)
+
+  help_walk : (h : Help) (n r l : ℕ) (x : LinkWord) → HelpFits s h → MayHold s (Link r) (OfLink x) → PointFits s (helping.after_walk h n l x)
+  help_walk h n r l Nil a m = goes_back h h.back a a.goes_back
+  help_walk h n r l (Single y) a m = (a, walks_on n y l m.1)
+  help_walk h n r l (Chain y) a m = (a, walks_on n y l m.1)
+  help_walk h n r l Shut a m = goes_back h h.back a a.goes_back
+
+  pub help_fits : (h : Help) (p : HelpPoint) (x : Content) → HelpFits s h → helping.fits s p → MayHold s (location (helping.act h p)) x → CourseFits s (helping.course h p x)
+  help_fits h help.LoadOldHead (OfHead (Node p)) a b m = (record { ann = a.ann; old_head = m.1; first = a.first; last = a.last; counts = a.counts; goes_back = a.goes_back }, tt)
+  help_fits h help.LoadOldHead (OfHead (Ann n y)) a b m = (record { ann = a.ann; old_head = (no_place s); first = a.first; last = a.last; counts = a.counts; goes_back = a.goes_back }, tt)
+  help_fits h help.LoadFirst (OfChainEnd r) a b m = (record { ann = a.ann; old_head = a.old_head; first = m.1; last = a.last; counts = a.counts; goes_back = a.goes_back }, tt)
+  help_fits h help.LoadLast (OfChainEnd r) a b m = (record { ann = a.ann; old_head = a.old_head; first = a.first; last = m.1; counts = a.counts; goes_back = a.goes_back }, tt)
+  help_fits h help.LoadCounts (OfCounts y) a b m = (record { ann = a.ann; old_head = a.old_head; first = a.first; last = a.last; counts = m.1; goes_back = a.goes_back }, tt)
+  help_fits h help.LoadTail (OfTail q) a b m = (a, m.1)
+  help_fits h (help.LoadOldTail p) (OfOldTail x) a b m = (a, old_tail_read p x h.ann 0 b m)
+  help_fits h (help.LoadLink p) (OfLink x) a b m = (a, help_link h p x b m)
+  help_fits h (help.LinkChain p) x a b m = (a, tt)
+  help_fits h (help.PassTail p r) x a b m = (a, tt)
+  help_fits h (help.RecordTail p) (OfOldTail x) a b m = (a, tail_recorded p x h.ann b m)
+  help_fits h (help.LoadTailOver q) x a b m = (a, help_either (same_place (tail_in x) q) (help.MoveTailOver q) (walk h q) b (walks h q a b))
+  help_fits h (help.MoveTailOver q) x a b m = (a, walks h q a b)
+  help_fits h (help.LoadWalk n r l) (OfLink x) a b m = help_walk h n r l x a m
+  help_fits h (help.MoveHead n r) x a b m = goes_back h h.back a a.goes_back
+  help_fits _ _ _ a b m = absurd m.0

@@ -23,7 +23,7 @@ use Rattle.core_model.specs.Facts.{Holds, AtPoint}
 use Rattle.core_model.specs.Ranges.{IsWord, RowsFit, CountsFit}
 use Rattle.core_model.specs.Lawful.{Lawful}
 use Rattle.core_model.proofs.Groups.{operations_within, length-operations-push}
-use Rattle.core_model.proofs.Stable.{world}
+use Rattle.core_model.proofs.Stable.{third, world}
 use Rattle.core_model.proofs.Preserves.{known}
 
 module _ (z : LaneSizes) (s : State) (L : Lawful z s) where
@@ -41,7 +41,7 @@ module _ (z : LaneSizes) (s : State) (L : Lawful z s) where
   module _ (fits : z.first + z.callers * z.allowance < 2 ^ 44) where
     -- the count of a row behind which another was linked
     count_fits : (c : ℕ) (p : Place) (n : ℕ) → Holds z (world s L.ghost) c (next_is p n) → p.count + 1 < 2 ^ 44
-    count_fits c p n next = let from = next.0 in let inside = (next.2 (p.count - z.first) (omega arith)).0 in let made = L.list.counts in let all = all_within in omega arith
+    count_fits c p n next = let from = next.from in let inside = (next.there (p.count - z.first) (omega arith)).0 in let made = L.list.counts in let all = all_within in omega arith
 
     fits_at : (c : ℕ) (t : Point) → AtPoint z (world s L.ghost) c (s.callers c) t → CountsFit t
     fits_at c (point.Enqueue x (enq.PassTail p n)) f = count_fits c p n f.here.0
@@ -49,9 +49,9 @@ module _ (z : LaneSizes) (s : State) (L : Lawful z s) where
     fits_at c (point.Dequeue (deq.PassTail p n)) f = count_fits c p n f.here.0
     fits_at c (point.Dequeue (deq.MoveHead p n v)) f = count_fits c p n f.here.0
     fits_at c (point.Help h (help.PassTail p n)) f = count_fits c p n f.here.0
-    fits_at c (point.Help h (help.MoveTailOver q)) f = let old = f.here.0 in let within = (L.announced.bound h.ann old.0 old.1).within in let count = ap (λ (p : Place). p.count) (L.announced.recorded h.ann old.0 q old.1 old.2) in
+    fits_at c (point.Help h (help.MoveTailOver q)) f = let old = f.here.0 in let within = (L.announced.bound h.ann old.position old.is_decided).within in let count = ap (λ (p : Place). p.count) (L.announced.recorded h.ann old.position q old.is_decided old.old_tail) in
         let enqs = ap (λ (k : BatchCounts). k.enqs) (f.call.0.counts (omega arith)) in let made = L.list.counts in let all = all_within in omega arith
-    fits_at c (point.Help h (help.MoveHead m r)) f = let sum = f.here.1.0.3 in let made = L.list.counts in let all = all_within in omega arith
+    fits_at c (point.Help h (help.MoveHead m r)) f = let sum = f.here.1.0.inside in let made = L.list.counts in let all = all_within in omega arith
     fits_at c _ f = tt
 
     pub counts_fit : (c : ℕ) → CountsFit (s.callers c).point
@@ -59,34 +59,34 @@ module _ (z : LaneSizes) (s : State) (L : Lawful z s) where
 
   -- a batch counts its rows out
   rows_at : z.rows ≤ 2 ^ 31 → (c : ℕ) (t : Point) → AtPoint z (world s L.ghost) c (s.callers c) t → RowsFit t
-  rows_at most c (point.Batch d (batch.StoreValue i r v)) f = let own = f.here.1.1.0 in let at = own.row in let inside = (f.here.0.0 i own.inside).1 in (omega arith, omega arith)
-  rows_at most c (point.Batch d (batch.StoreChain i r n)) f = let own = f.here.1.1.0 in let at = own.row in let behind = own.next in let more = own.inside in let inside = (f.here.0.0 (suc i) more).1 in (omega arith, omega arith)
+  rows_at most c (point.Batch d (batch.StoreValue i r v)) f = let own = (third f.here) in let at = own.row in let inside = (f.here.0.free i own.inside).inside in (omega arith, omega arith)
+  rows_at most c (point.Batch d (batch.StoreChain i r n)) f = let own = (third f.here) in let at = own.row in let behind = own.next in let more = own.inside in let inside = (f.here.0.free (suc i) more).inside in (omega arith, omega arith)
   rows_at most c _ f = tt
 
   pub rows_fit : z.rows ≤ 2 ^ 31 → (c : ℕ) → RowsFit (s.callers c).point
   rows_fit most c = rows_at most c (s.callers c).point (known z s L c (s.callers c).point refl)
 
   word_at : (c : ℕ) (t : Point) → AtPoint z (world s L.ghost) c (s.callers c) t → IsWord z.rows (z.callers * z.callers) (target t)
-  word_at c (point.Enqueue x enq.StoreValue) f = f.call.1.1.0.0.inside
-  word_at c (point.Enqueue x (enq.LoadLink p)) f = f.here.0.3
-  word_at c (point.Enqueue x (enq.LinkSingle p)) f = f.here.0.3
-  word_at c (point.Dequeue (deq.LoadLink p)) f = f.here.0.3
-  word_at c (point.Dequeue (deq.LoadValue p n)) f = f.here.1.0.1
-  word_at c (point.Batch d (batch.StoreValue i r v)) f = let own = f.here.1.1.0 in subst (λ (y : ℕ). y < z.rows) (sym own.row) (f.here.0.0 i own.inside).1
-  word_at c (point.Batch d (batch.StoreChain i r n)) f = let own = f.here.1.1.0 in let next = own.inside in subst (λ (y : ℕ). y < z.rows) (sym own.row) (f.here.0.0 i (omega arith)).1
-  word_at c (point.Batch d (batch.StoreField x)) f = f.call.1.0.5
+  word_at c (point.Enqueue x enq.StoreValue) f = (third f.call).0.inside
+  word_at c (point.Enqueue x (enq.LoadLink p)) f = f.here.0.inside
+  word_at c (point.Enqueue x (enq.LinkSingle p)) f = f.here.0.inside
+  word_at c (point.Dequeue (deq.LoadLink p)) f = f.here.0.inside
+  word_at c (point.Dequeue (deq.LoadValue p n)) f = f.here.1.0.inside
+  word_at c (point.Batch d (batch.StoreValue i r v)) f = let own = (third f.here) in subst (λ (y : ℕ). y < z.rows) (sym own.row) (f.here.0.free i own.inside).inside
+  word_at c (point.Batch d (batch.StoreChain i r n)) f = let own = (third f.here) in let next = own.inside in subst (λ (y : ℕ). y < z.rows) (sym own.row) (f.here.0.free i (omega arith)).inside
+  word_at c (point.Batch d (batch.StoreField x)) f = f.call.1.0.inside
   word_at c (point.Help h help.LoadOldHead) f = f.call.0.inside
   word_at c (point.Help h help.LoadFirst) f = f.call.0.inside
   word_at c (point.Help h help.LoadLast) f = f.call.0.inside
   word_at c (point.Help h help.LoadCounts) f = f.call.0.inside
   word_at c (point.Help h (help.LoadOldTail p)) f = f.call.0.inside
-  word_at c (point.Help h (help.LoadLink p)) f = f.here.0.3
-  word_at c (point.Help h (help.LinkChain p)) f = f.here.0.3
+  word_at c (point.Help h (help.LoadLink p)) f = f.here.0.inside
+  word_at c (point.Help h (help.LinkChain p)) f = f.here.0.inside
   word_at c (point.Help h (help.RecordTail p)) f = f.call.0.inside
-  word_at c (point.Help h (help.LoadWalk m r l)) f = f.here.0.2
+  word_at c (point.Help h (help.LoadWalk m r l)) f = f.here.0.inside
   word_at c (point.Answer (answer.LoadOldTail h)) f = f.here.0.inside
-  word_at c (point.Answer (answer.LoadLink m r l)) f = let rd = f.here.0 in subst (λ (y : ℕ). y < z.rows) rd.last_row (L.list.rows.inside (rd.linearized.dummy + rd.read) (rd.linearized.rows rd.read (let e = rd.left in let all = ap (gets (s.memory.notice rd.ann).counts) rd.queued in omega arith)).0)
-  word_at c (point.Answer (answer.LoadValue m r l)) f = let rd = f.here.0 in let R = rd.3 in let e = rd.6 in let all = ap (gets (s.memory.notice rd.0).counts) rd.5 in let inside = (R.rows (suc rd.4) (omega arith)).0 in subst (λ (y : ℕ). y < z.rows) rd.7 (L.list.rows.inside (suc (R.dummy + rd.4)) (omega arith))
+  word_at c (point.Answer (answer.LoadLink m r l)) f = let rd = f.here.0 in subst (λ (y : ℕ). y < z.rows) rd.last_row (L.list.rows.inside (rd.linearized.dummy + rd.read) (rd.linearized.rows rd.read (let e = rd.left in let all = ap (gets (s.memory.notice rd.ann).counts) rd.queued in omega arith)).inside)
+  word_at c (point.Answer (answer.LoadValue m r l)) f = let rd = f.here.0 in let R = rd.linearized in let e = rd.left in let all = ap (gets (s.memory.notice rd.ann).counts) rd.queued in let inside = (R.rows (suc rd.read) (omega arith)).inside in subst (λ (y : ℕ). y < z.rows) rd.next_row (L.list.rows.inside (suc (R.dummy + rd.read)) (omega arith))
   word_at c _ f = tt
 
   pub is_word : (c : ℕ) → IsWord z.rows (z.callers * z.callers) (target (s.callers c).point)

@@ -7,6 +7,7 @@ pub mod Preserves
 pub mod Announces
 pub mod Sames
 pub mod Lookups
+pub mod Fitting
 pub mod Tails
 pub mod DequeueSteps
 pub mod EnqueueLink
@@ -18,7 +19,8 @@ pub mod BatchSteps
 pub mod HelpLoads
 pub mod HelpMoves
 pub mod Runs
-pub mod Chains
+pub mod ChainRows
+pub mod ChainLink
 pub mod HelpSteps
 pub mod AnswerSteps
 pub mod Steps
@@ -29,4 +31,8 @@ pub mod Finds
 pub mod Standings
 pub mod Notes
 pub mod Tables
+pub mod ReadValues
+pub mod Coding
+pub mod CodedSteps
+pub mod CodedStarts
 mod Trace

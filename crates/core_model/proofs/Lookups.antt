@@ -35,39 +35,43 @@ module _ (z : LaneSizes) (s : State) (L : Lawful z s) (c : ℕ) where
   abbrev G : Ghost
   G = L.ghost
 
-  -- a row of the list, by its place
+  -- a row of the list, by its position
   pub on_list : (p : Place) (i : ℕ) → p.count ≡ z.first + i → p.row ≡ L.ghost.path i → L.ghost.head ≤ i → i < positions L.ghost → Holds z (world s L.ghost) c (linked p)
-  on_list p i count row from below = let is : G.path i ≡ p.row = sym row in (
-    i,
-    count,
-    (
-      below,
-      subst (λ (r : ℕ). G.spot r ≡ Some i) is (L.list.rows.spots i from below),
-      is,
-      (
+  on_list p i count row from below = let is : G.path i ≡ p.row = sym row in record {
+    position = i;
+    count = count;
+    on = record {
+      inside = below;
+      spot = subst (λ (r : ℕ). G.spot r ≡ Some i) is (L.list.rows.spots i from below);
+      row = is;
+      link = (
         (λ e. subst (λ (r : ℕ). s.memory.link r ≡ Nil) is (let same : G.head + G.rest ≡ i = omega arith in subst (λ (j : ℕ). s.memory.link (G.path j) ≡ Nil) same L.list.rows.last)),
         λ b. subst (λ (r : ℕ). s.memory.link r ≡ joint (G.chained i) (G.path (suc i))) is (L.list.rows.joined i from (omega arith)),
-      ),
-    ),
-    subst (λ (r : ℕ). r < z.rows) is (L.list.rows.inside i below),
-  )
+      );
+    };
+    inside = subst (λ (r : ℕ). r < z.rows) is (L.list.rows.inside i below);
+  }
 
   -- a linked row whose link is Nil is the last one
-  pub is_last : (p : Place) → (f : Holds z (world s L.ghost) c (linked p)) → s.memory.link p.row ≡ Nil → f.0 ≡ L.ghost.head + L.ghost.rest
-  is_last p (i, count, on, _) is = let below = on.0 in dite (dec_le (suc (suc i)) (positions L.ghost))
-      (λ inside. absurd (never (L.ghost.chained i) (L.ghost.path (suc i)) (sym (on.3.1 inside) ∙ is))) (λ end. omega arith) where
+  pub is_last : (p : Place) → (f : Holds z (world s L.ghost) c (linked p)) → s.memory.link p.row ≡ Nil → f.position ≡ L.ghost.head + L.ghost.rest
+  is_last p f is = let i = f.position in let count = f.count in let on = f.on in let below = on.inside in dite (dec_le (suc (suc i)) (positions L.ghost))
+      (λ inside. absurd (never (L.ghost.chained i) (L.ghost.path (suc i)) (sym (on.link.1 inside) ∙ is))) (λ end. omega arith) where
         never : (b : Bool) (x : ℕ) → joint b x ≡ Nil → ⊥
         never true x e = cc e
         never false x e = cc e
 
   -- the link of a linked row, where it isn't Nil, names the row that was linked next
   pub next_found : (p : Place) (n : ℕ) (b : Bool) → Holds z (world s L.ghost) c (linked p) → s.memory.link p.row ≡ joint b n → Holds z (world s L.ghost) c (next_is p n) × ((i : ℕ) → p.count ≡ z.first + i → (suc i < positions L.ghost) × (L.ghost.chained i ≡ b))
-  next_found p n b (i, count, on, _) is = let below = on.0 in dite (dec_le (suc (suc i)) (positions L.ghost))
-      (λ inside. let same = joints (G.chained i) b (G.path (suc i)) n (sym (on.3.1 inside) ∙ is) in (
-        ((omega arith), subst (λ (r : ℕ). r < z.rows) same.1 (L.list.rows.inside (suc i) inside), λ k here. let e : k ≡ i = omega arith in (omega arith, ap (λ (y : ℕ). G.path (suc y)) e ∙ same.1)),
+  next_found p n b f is = let i = f.position in let count = f.count in let on = f.on in let below = on.inside in dite (dec_le (suc (suc i)) (positions L.ghost))
+      (λ inside. let same = joints (G.chained i) b (G.path (suc i)) n (sym (on.link.1 inside) ∙ is) in (
+        record {
+          from = omega arith;
+          inside = subst (λ (r : ℕ). r < z.rows) same.1 (L.list.rows.inside (suc i) inside);
+          there = λ k here. let e : k ≡ i = omega arith in (omega arith, ap (λ (y : ℕ). G.path (suc y)) e ∙ same.1);
+        },
         λ k here. let e : k ≡ i = omega arith in (omega arith, ap G.chained e ∙ same.0),
       ))
-      (λ end. absurd (never b n (sym (on.3.0 (omega arith)) ∙ is))) where
+      (λ end. absurd (never b n (sym (on.link.0 (omega arith)) ∙ is))) where
         joints : (a b : Bool) (x n : ℕ) → joint a x ≡ joint b n → (a ≡ b) × (x ≡ n)
         joints true true x n e = (refl, cc e)
         joints false false x n e = (refl, cc e)

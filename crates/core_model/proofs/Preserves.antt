@@ -1,4 +1,4 @@
--- A step keeps the lane lawful where the parts are shown of the new world; a quiet step changes its caller's turn alone.
+-- A step keeps the lane lawful where the parts are shown of the new world; one that stutters changes its caller's point alone.
 use Rattle.std.proofs.Common.{◌≡◌, ◌≢◌, ◌⊎◌, inl, inr, ℕ, suc, ◌+◌, ◌<◌, ◌≤◌, eqb, Bool, true, false, cond, List, [], ◌∷◌, ◌++◌, length, sym, refl, ap, ◌∙◌, subst, arith, le_refl, length-append, Option, Some, IsSome}
 use Rattle.std.proofs.lemmas.List.{append-nil}
 use Rattle.std.proofs.lemmas.Bool.{eqb-true, and_parts}
@@ -83,7 +83,7 @@ rely_history z s g linearized h more = record {
   path_same = λ _ _. refl;
   chained_same = λ _ _. refl;
   spot_own = λ _ u _. u;
-  on_same = λ i r on. (on.1, on.3, refl);
+  on_same = λ i r on. (on.spot, on.link, refl);
   link_own = λ _ _ _. refl;
   value_own = λ _ _ _. refl;
   value_path = λ _ _ _. refl;
@@ -138,7 +138,7 @@ module _ (z : LaneSizes) (s : State) (L : Lawful z s) (c : ℕ) where
   abbrev own : Group
   own = own_group c (s.callers c)
 
-  -- what the caller knows at its turn t
+  -- what the caller knows at its point t
   pub known : (t : Point) → (s.callers c).point ≡ t → AtPoint z (world s L.ghost) c (s.callers c) t
   known t is = subst (λ (u : Point). AtPoint z here c me u) is (L.callers c).knows.at_point
 
@@ -159,15 +159,15 @@ module _ (z : LaneSizes) (s : State) (L : Lawful z s) (c : ℕ) where
 
   -- an announcement goes on to stand, and to wait, as the caller c goes on
   pub told_plain : (memory : Memory) (g : Ghost) (k : Caller) → Plain z g c → ((a : ℕ) → IsTold z memory g s.callers a) → (a : ℕ) → IsTold z memory g (put s.callers c k) a
-  told_plain memory g k plain old a at_head = subst (Told memory.value g.path (g.stage a) (memory.notice a) (owner_of z a)) (sym (put_else s.callers c k (owner_of z a) (plain a at_head))) (old a at_head)
+  told_plain memory g k plain old a at_head = subst (Told z.home memory.value g.path (g.stage a) (memory.notice a) (owner_of z a)) (sym (put_else s.callers c k (owner_of z a) (plain a at_head))) (old a at_head)
 
   pub told_on : (memory : Memory) (g : Ghost) (t : Point) → Plain z g c ⊎ HelpsOwn t → ((a : ℕ) → IsTold z memory g s.callers a) → (a : ℕ) → IsTold z memory g (put s.callers c (stepped (s.callers c) t)) a
   told_on memory g t (inl plain) old a at_head = told_plain memory g (stepped me t) plain old a at_head
-  told_on memory g t (inr own) old a at_head = put_all s.callers c (stepped me t) (λ d k. owner_of z a ≡ d → Told memory.value g.path (g.stage a) (memory.notice a) (owner_of z a) k)
-      (λ at. let p = subst (λ (d : ℕ). Told memory.value g.path (g.stage a) (memory.notice a) (owner_of z a) (s.callers d)) at (old a at_head) in record { describes = p.describes; helps = own; values = p.values })
-      (λ d _ at. subst (λ (d : ℕ). Told memory.value g.path (g.stage a) (memory.notice a) (owner_of z a) (s.callers d)) at (old a at_head)) (owner_of z a) refl
+  told_on memory g t (inr own) old a at_head = put_all s.callers c (stepped me t) (λ d k. owner_of z a ≡ d → Told z.home memory.value g.path (g.stage a) (memory.notice a) (owner_of z a) k)
+      (λ at. let p = subst (λ (d : ℕ). Told z.home memory.value g.path (g.stage a) (memory.notice a) (owner_of z a) (s.callers d)) at (old a at_head) in record { describes = p.describes; first = p.first; last = p.last; helps = own; values = p.values })
+      (λ d _ at. subst (λ (d : ℕ). Told z.home memory.value g.path (g.stage a) (memory.notice a) (owner_of z a) (s.callers d)) at (old a at_head)) (owner_of z a) refl
 
-  -- of an announcement that waits the turn of its owner says nothing
+  -- of an announcement that waits the point of its owner says nothing
   pub waits_plain : (memory : Memory) (g : Ghost) (k : Caller) → Plain z g c → ((a : ℕ) → g.stage a ≡ waiting → g.ann ≡ Some a) → ((a : ℕ) → Waits z memory g s.callers a) → (a : ℕ) → Waits z memory g (put s.callers c k) a
   waits_plain memory g k plain there old a waits = subst (Pending z memory.link memory.value g.spot g.chain (g.linearized (owner_of z a)) (memory.notice a) (owner_of z a)) (sym (put_else s.callers c k (owner_of z a) (plain a (there a waits)))) (old a waits)
 
@@ -217,7 +217,7 @@ module _ (z : LaneSizes) (s : State) (L : Lawful z s) (c : ℕ) where
     callers = put_all s.callers c k (λ d y. OfCaller z w d y) mine' (λ d apart. caller_stable z Touch here w rely d (s.callers d) (λ r at touch. apart (sym at ∙ homes r touch)) (others d apart) (L.callers d));
   }
 
-  -- the caller's turn alone changes
+  -- the caller's point alone changes
   pub point_changes : (t : Point) → AtPoint z (world s L.ghost) c (stepped (s.callers c) t) t → Lawful z record { memory = s.memory; history = s.history; callers = put s.callers c (stepped (s.callers c) t) }
   point_changes t knows = record {
     ghost = L.ghost;
@@ -266,7 +266,7 @@ module _ (z : LaneSizes) (s : State) (L : Lawful z s) (c : ℕ) where
     }) (λ d _. L.callers d);
   }
 
-  -- the running command, which has landed, ends
+  -- the running command, which has taken effect, ends
   pub finishes : (xs : List Answer) → L.ghost.linearized c ≡ true → Plain z L.ghost c
       → (st : Stands s.history (own_group c (s.callers c)) xs) → (s.callers c).started_at ≤ length st.before
       → Lawful z record { memory = s.memory; history = s.history; callers = put s.callers c (ended (length s.history) c (s.callers c) xs) }
@@ -329,7 +329,7 @@ module _ (z : LaneSizes) (s : State) (L : Lawful z s) (c : ℕ) where
     kept' : Kept s.history c k
     kept' = record { none = λ no. absurd (no refl); done = λ _. record { earlier = me.mine; ops = me.ops; last = refl; stands = st; timely = before_end } }
 
-  -- the command of c lands, whoever makes the step, and with it grows the history
+  -- the command of c takes effect, whoever makes the step, and its group joins the history
   module _ (off : L.ghost.linearized c ≡ false) where
     own_mine : mine s.history c ≡ (s.callers c).mine
     own_mine = (L.callers c).own_groups ∙ (ap (λ (b : Bool). me.mine ++ cond b (own ∷ []) []) off ∙ append-nil me.mine)

@@ -70,7 +70,7 @@ module _ (z : LaneSizes) (s : State) (L : Lawful z s) where
     by (Chain r) is = ne_eqb r (s.memory.notice a).first (λ same. let P = L.pending a waits in let next = tail_link r is in let below = next.0 in let from = L.list.tail.after_head in
         some_none (sym (L.list.rows.spots (suc G.tail) (omega arith) (omega arith)) ∙ (ap G.spot (next.1 ∙ (same ∙ sym P.starts)) ∙ P.unlinked 0 P.some)))
 
-  -- a decided announcement that stands is decided by the words, at the place where it was
+  -- a decided announcement that stands is decided by the words, at the position where it was
   module _ (a i : ℕ) (at_head : G.ann ≡ Some a) (d : G.stage a ≡ decided i) where
     old_head_is : (s.memory.notice a).old_head ≡ at z.first G.path G.head
     old_head_is = L.announced.old_head a at_head

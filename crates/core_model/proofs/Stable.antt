@@ -21,6 +21,13 @@ use Rattle.core_model.specs.Ghost.{Stage, unused, waiting, decided, Ghost, World
 use Rattle.core_model.specs.Kept.{Stands, numbered, Kept}
 use Rattle.core_model.proofs.Puts.{run_same}
 
+-- the third and the fourth of the facts in a list
+abbrev pub third : {A B C D : Type 0} → A × (B × (C × D)) → C
+third f = f.1.1.0
+
+abbrev pub fourth : {A B C D E : Type 0} → A × (B × (C × (D × E))) → D
+fourth f = f.1.1.1.0
+
 -- a state with what its words don't say
 abbrev pub world : State → Ghost → World
 world s g = record { memory = s.memory; history = s.history; ghost = g }
@@ -52,7 +59,7 @@ one_some e = cc e
 pub some_none : {A : Type 0} {i : A} → Some i ≡ None → ⊥
 some_none e = cc e
 
--- Announcements go on, from waiting to decided; one is decided as rows are linked and the command of its owner lands.
+-- Announcements go on, from waiting to decided; one is decided as rows are linked and the command of its owner takes effect.
 pub record AnnRely (z : LaneSizes) (a b : World) : Type 0 where
   pub installed : (x : ℕ) → Installed a x → Installed b x
   pub waited : (x : ℕ) → b.ghost.stage x ≡ waiting → Installed a x → a.ghost.stage x ≡ waiting
@@ -158,7 +165,7 @@ module _ (z : LaneSizes) (Touch : ℕ → Type 0) (a b : World) (g : Rely z Touc
   owns_stable r off o = record { at_home = o.at_home; inside = o.inside; is_item = o.is_item; unlinked = g.spot_own r o.unlinked off; nil = g.link_own r o.unlinked off ∙ o.nil }
 
   on_stable : (i r : ℕ) → On a i r → On b i r
-  on_stable i r on = let inside = on.0 in let longer = g.longer in let y = g.on_same i r on in (omega arith, y.0, g.path_same i on.0 ∙ on.2, y.1)
+  on_stable i r on = let inside = on.inside in let longer = g.longer in let y = g.on_same i r on in record { inside = omega arith; spot = y.0; row = g.path_same i on.inside ∙ on.row; link = y.1 }
 
   next_value_stable : (p : Place) (v : ℕ) → Holds z a c (next_value p v) → Holds z b c (next_value p v)
   next_value_stable p v x = let longer = g.longer in let heads = g.heads in let seen = x.0 in (
@@ -187,7 +194,7 @@ module _ (z : LaneSizes) (Touch : ℕ → Type 0) (a b : World) (g : Rely z Touc
   values_stable x i n own R m le = run_same (λ j. a.memory.value (a.ghost.path j)) (λ j. b.memory.value (b.ghost.path j)) (suc R.dummy) m
       (λ j from below. subst (λ (y : ℕ). a.memory.value (a.ghost.path y) ≡ b.memory.value (b.ghost.path y)) (let e : R.dummy + (j - R.dummy) ≡ j = omega arith in e) (one (j - R.dummy) (omega arith))) where
         one : (y : ℕ) → y ≤ gets (a.memory.notice x).counts (i - R.dummy) → a.memory.value (a.ghost.path (R.dummy + y)) ≡ b.memory.value (b.ghost.path (R.dummy + y))
-        one y l = let on = R.rows y l in sym (ap b.memory.value (g.path_same (R.dummy + y) on.0) ∙ (g.on_same (R.dummy + y) (a.ghost.path (R.dummy + y)) on).2)
+        one y l = let on = R.rows y l in sym (ap b.memory.value (g.path_same (R.dummy + y) on.inside) ∙ (g.on_same (R.dummy + y) (a.ghost.path (R.dummy + y)) on).2)
 
   -- a batch that stands in the history goes on to do so
   pub linearized_stable : (x i n : ℕ) (own : Group) → a.ghost.stage x ≡ decided i → Linearized z a x i n own → Linearized z b x i n own
@@ -198,22 +205,22 @@ module _ (z : LaneSizes) (Touch : ℕ → Type 0) (a b : World) (g : Rely z Touc
     since_start = R.since_start;
     counts = ap (λ (s : Notice). s.counts) notice ∙ R.counts;
     dummy = R.dummy;
-    old_head = ap (λ (s : Notice). s.old_head) notice ∙ (R.old_head ∙ ap (λ (r : ℕ). record { row = r; count = z.first + R.dummy }) (sym (g.path_same R.dummy (let l = first_on.0 in omega arith))));
+    old_head = ap (λ (s : Notice). s.old_head) notice ∙ (R.old_head ∙ ap (λ (r : ℕ). record { row = r; count = z.first + R.dummy }) (sym (g.path_same R.dummy (let l = first_on.inside in omega arith))));
     before = R.before;
     length_queue = R.length_queue;
     values = ap (λ (s : Notice). take (gets s.counts (i - R.dummy)) (values_from (last_queue R.pre) own.ops)) notice
         ∙ (R.values ∙ (values_stable x i n own R (gets (a.memory.notice x).counts (i - R.dummy)) (omega arith) ∙ ap (λ (s : Notice). run (λ j. b.memory.value (b.ghost.path j)) (suc R.dummy) (gets s.counts (i - R.dummy))) (sym notice)));
     rows = λ y l. let on = R.rows y (subst (λ (s : Notice). y ≤ gets s.counts (i - R.dummy)) notice l) in
-        subst (On b (R.dummy + y)) (sym (g.path_same (R.dummy + y) on.0)) (on_stable (R.dummy + y) (a.ghost.path (R.dummy + y)) on);
+        subst (On b (R.dummy + y)) (sym (g.path_same (R.dummy + y) on.inside)) (on_stable (R.dummy + y) (a.ghost.path (R.dummy + y)) on);
   }
 
   pub shared_stable : (f : Fact) → Shared f → Holds z a c f → Holds z b c f
   unfolding linearized_stable stands_still
-  shared_stable (linked p) _ x = (x.0, x.1, on_stable x.0 p.row x.2, x.3)
+  shared_stable (linked p) _ x = record { position = x.position; count = x.count; on = on_stable x.position p.row x.on; inside = x.inside }
   shared_stable (head_seen p) _ x = let heads = g.heads in omega arith
   shared_stable (tail_seen p) _ x = let tails = g.tails in omega arith
   shared_stable (tail_past p) _ x = let tails = g.tails in omega arith
-  shared_stable (next_is p n) _ x = (x.0, x.1, λ i e. let y = x.2 i e in let inside = y.0 in let longer = g.longer in (omega arith, g.path_same (suc i) inside ∙ y.1))
+  shared_stable (next_is p n) _ x = record { from = x.from; inside = x.inside; there = λ i e. let y = x.there i e in let inside = y.0 in let longer = g.longer in (omega arith, g.path_same (suc i) inside ∙ y.1) }
   shared_stable (by_single p) _ x = λ i e. let y = x i e in let inside = y.0 in let longer = g.longer in (omega arith, g.chained_same i inside ∙ y.1)
   shared_stable (next_value p v) _ x = next_value_stable p v x
   shared_stable (is_op ops op) _ x = x
@@ -243,24 +250,41 @@ module _ (z : LaneSizes) (Touch : ℕ → Type 0) (a b : World) (g : Rely z Touc
   )
   shared_stable (is_old_tail y p) _ x = (
     g.anns.installed y x.0,
-    λ e. let s = still y e x.0 in let o = x.1 s.0 in let inside = o.2 in let longer = g.longer in
-        (o.0, g.anns.done y o.0 o.1, omega arith, o.3 ∙ ap (λ (r : ℕ). record { row = r; count = z.first + o.0 }) (sym (g.path_same o.0 o.2))),
+    λ e. let s = still y e x.0 in let o = x.1 s.0 in let inside = o.inside in let longer = g.longer in record {
+      position = o.position;
+      is_decided = g.anns.done y o.position o.is_decided;
+      inside = omega arith;
+      place = o.place ∙ ap (λ (r : ℕ). record { row = r; count = z.first + o.position }) (sym (g.path_same o.position o.inside));
+    },
   )
-  shared_stable (old_tail_is y q) _ x = (x.0, g.anns.done y x.0 x.1, g.anns.old_same y q (is_installed y x.0 x.1) x.2)
-  shared_stable (tail_over y) _ x = let inst = is_installed y x.0 x.1 in (
-    x.0,
-    g.anns.done y x.0 x.1,
-    (x.2.0, g.anns.old_same y x.2.0 inst x.2.1),
-    λ e. let s = still y e inst in let o = x.3 s.0 in let tails = g.tails in let enqs = ap (λ (s : Notice). s.counts.enqs) (g.anns.notice_same y inst) in omega arith,
-  )
-  shared_stable (gets_so_many h m) _ x = let inst = is_installed h.ann x.0 x.1 in (x.0, g.anns.done h.ann x.0 x.1, (λ e. let s = still h.ann e inst in s.2 x.0 x.1 ∙ x.2 s.0), let l = x.3 in let longer = g.longer in omega arith)
-  shared_stable (walks y r l) _ x = let inst = is_installed y x.0 x.1 in (
-    x.0,
-    g.anns.done y x.0 x.1,
-    x.2,
-    λ e. let s = still y e inst in let o = x.3 s.0 in let same = s.1 in let shown = s.2 x.0 x.1 in let sum = o.1 in let inside = o.2 in let longer = g.longer in
-        (o.0, omega arith, omega arith, ap (λ (h : ℕ). b.ghost.path (h + o.0)) same ∙ (g.path_same (a.ghost.head + o.0) o.2 ∙ o.3)),
-  )
+  shared_stable (old_tail_is y q) _ x = record {
+    position = x.position;
+    is_decided = g.anns.done y x.position x.is_decided;
+    old_tail = g.anns.old_same y q (is_installed y x.position x.is_decided) x.old_tail;
+  }
+  shared_stable (tail_over y) _ x = let inst = is_installed y x.position x.is_decided in record {
+    position = x.position;
+    is_decided = g.anns.done y x.position x.is_decided;
+    known = (x.known.0, g.anns.old_same y x.known.0 inst x.known.1);
+    past = λ e. let s = still y e inst in let o = x.past s.0 in let tails = g.tails in let enqs = ap (λ (s : Notice). s.counts.enqs) (g.anns.notice_same y inst) in omega arith;
+  }
+  shared_stable (gets_so_many h m) _ x = let inst = is_installed h.ann x.position x.is_decided in record {
+    position = x.position;
+    is_decided = g.anns.done h.ann x.position x.is_decided;
+    shown = λ e. let s = still h.ann e inst in s.2 x.position x.is_decided ∙ x.shown s.0;
+    inside = let l = x.inside in let longer = g.longer in omega arith;
+  }
+  shared_stable (walks y r l) _ x = let inst = is_installed y x.position x.is_decided in record {
+    position = x.position;
+    is_decided = g.anns.done y x.position x.is_decided;
+    inside = x.inside;
+    lies = λ e. let s = still y e inst in let o = x.lies s.0 in let same = s.1 in let shown = s.2 x.position x.is_decided in let sum = o.sum in let inside = o.inside in let longer = g.longer in record {
+      behind = o.behind;
+      sum = omega arith;
+      inside = omega arith;
+      row = ap (λ (h : ℕ). b.ghost.path (h + o.behind)) same ∙ (g.path_same (a.ghost.head + o.behind) o.inside ∙ o.row);
+    };
+  }
   shared_stable (has_read n own m vs l r) _ x = record {
     ann = x.ann;
     position = x.position;
@@ -269,22 +293,23 @@ module _ (z : LaneSizes) (Touch : ℕ → Type 0) (a b : World) (g : Rely z Touc
     read = x.read;
     queued = x.queued;
     left = x.left ∙ ap (λ (s : Notice). gets s.counts m) (sym (notice_stable x.ann x.position x.is_decided));
-    last_row = g.path_same (x.linearized.dummy + x.read) (x.linearized.rows x.read within).0 ∙ x.last_row;
+    last_row = g.path_same (x.linearized.dummy + x.read) (x.linearized.rows x.read within).inside ∙ x.last_row;
     values = x.values ∙ values_stable x.ann x.position n own x.linearized x.read within;
   } where
     within : x.read ≤ gets (a.memory.notice x.ann).counts (x.position - x.linearized.dummy)
     within = let s = x.left in let f : gets (a.memory.notice x.ann).counts m ≡ gets (a.memory.notice x.ann).counts (x.position - x.linearized.dummy) = ap (gets (a.memory.notice x.ann).counts) x.queued in omega arith
-  shared_stable (is_reading n own m vs l r) _ (y, i, at_i, R, x, m_is, sum, row, vals) = let f : gets (a.memory.notice y).counts m ≡ gets (a.memory.notice y).counts (i - R.dummy) = ap (gets (a.memory.notice y).counts) m_is in let s = sum in let on = R.rows (suc x) (omega arith) in let l = on.0 in (
-    y,
-    i,
-    g.anns.done y i at_i,
-    linearized_stable y i n own at_i R,
-    x,
-    m_is,
-    sum ∙ ap (λ (s : Notice). gets s.counts m) (sym (notice_stable y i at_i)),
-    g.path_same (suc (R.dummy + x)) (omega arith) ∙ row,
-    vals ∙ values_stable y i n own R x (omega arith),
-  )
+  shared_stable (is_reading n own m vs l r) _ x = let R = x.linearized in let f : gets (a.memory.notice x.ann).counts m ≡ gets (a.memory.notice x.ann).counts (x.position - R.dummy) = ap (gets (a.memory.notice x.ann).counts) x.queued in let s = x.left in
+      let on = R.rows (suc x.read) (omega arith) in let l = on.inside in record {
+        ann = x.ann;
+        position = x.position;
+        is_decided = g.anns.done x.ann x.position x.is_decided;
+        linearized = linearized_stable x.ann x.position n own x.is_decided R;
+        read = x.read;
+        queued = x.queued;
+        left = x.left ∙ ap (λ (s : Notice). gets s.counts m) (sym (notice_stable x.ann x.position x.is_decided));
+        next_row = g.path_same (suc (R.dummy + x.read)) (omega arith) ∙ x.next_row;
+        values = x.values ∙ values_stable x.ann x.position n own R x.read (omega arith);
+      }
   shared_stable (owns n r) bad x = absurd bad
   shared_stable (holds_item i) bad x = absurd bad
   shared_stable (unused_rows n) bad x = absurd bad
@@ -304,7 +329,7 @@ module _ (z : LaneSizes) (Touch : ℕ → Type 0) (a b : World) (g : Rely z Touc
     stood_there x e own = ⊎_elim (λ (old : (a.ghost.ann ≡ Some x) × (b.ghost.head ≡ a.ghost.head) × ((i : ℕ) → a.ghost.stage x ≡ decided i → b.ghost.shown ≡ a.ghost.shown)). old.0)
         (λ (new : (a.ghost.stage x ≡ unused) × (b.ghost.stage x ≡ waiting)). absurd (unused_waits (own_drafts x own new.0).0 new.1)) (g.anns.stood x e)
 
-    -- an own announcement is not decided by a step that leaves the caller's `landed`
+    -- an own announcement is not decided by a step that leaves the caller's `linearized`
     was : (x i : ℕ) → Installed a x → owner_of z x ≡ c → b.ghost.stage x ≡ decided i → a.ghost.stage x ≡ decided i
     was x i inst own e = ⊎_elim (λ (old : a.ghost.stage x ≡ decided i). old)
         (λ (new : (positions a.ghost < positions b.ghost) × (a.ghost.linearized (owner_of z x) ≡ false) × (b.ghost.linearized (owner_of z x) ≡ true)).
@@ -317,21 +342,25 @@ module _ (z : LaneSizes) (Touch : ℕ → Type 0) (a b : World) (g : Rely z Touc
     stable (holds_item i) x = (owns_stable i.row (apart i.row x.0.at_home) x.0, g.value_own i.row x.0.unlinked (apart i.row x.0.at_home) ∙ x.1)
     stable (unused_rows n) x = λ i from below known. let o = x i from below known in owns_stable (item z c i) (apart (item z c i) o.at_home) o
     stable (linearized_is d) x = (linearized ∙ x.0, λ y e own. x.1 y (stood_there y e own) own)
-    stable (fills n s ops i j) x = let off = λ (l : ℕ) (below : l < s.counts.enqs). apart (s.first + l) (x.0 l below).0 in (
-      (λ l below. let o = x.0 l below in (o.0, o.1, g.spot_own (s.first + l) o.2 (off l below), o.3)),
-      x.1,
-      (λ l below more. g.value_own (s.first + l) (x.0 l below).2 (off l below) ∙ x.2 l below more),
-      (λ l below more. g.link_own (s.first + l) (x.0 l below).2 (off l below) ∙ x.3 l below more),
-      λ l below more. g.link_own (s.first + l) (x.0 l below).2 (off l below) ∙ x.4 l below more,
-    )
-    stable (written d f) x = let w = own_drafts d.ann x.1 x.0 in (w.0, x.1, subst (λ (y : Option Place × Notice). AllAgree (stored_before f) y.0 y.1 d.notice) (λ i. (sym w.2 i, sym w.1 i)) x.2)
-    stable (head_written d) x = let w = own_drafts d.ann x.1 x.0 in (w.0, x.1, ap (λ (s : Notice). s.old_head) w.1 ∙ x.2)
-    stable (takes_effect y n own) x = (
-      g.anns.installed y x.0,
-      x.1,
-      (λ i e. let old = was y i x.0 x.1 e in let r = x.2 i old in (linearized ∙ r.0, linearized_stable y i n own old r.1)),
-      λ w e o. x.3 w (stood_there w e o) o,
-    )
+    stable (fills n s ops i j) x = let off = λ (l : ℕ) (below : l < s.counts.enqs). apart (s.first + l) (x.free l below).at_home in record {
+      free = λ l below. let o = x.free l below in record { at_home = o.at_home; inside = o.inside; unlinked = g.spot_own (s.first + l) o.unlinked (off l below); is_item = o.is_item };
+      taken = x.taken;
+      values = λ l below more. g.value_own (s.first + l) (x.free l below).unlinked (off l below) ∙ x.values l below more;
+      joined = λ l below more. g.link_own (s.first + l) (x.free l below).unlinked (off l below) ∙ x.joined l below more;
+      nil = λ l below more. g.link_own (s.first + l) (x.free l below).unlinked (off l below) ∙ x.nil l below more;
+    }
+    stable (written d f) x = let w = own_drafts d.ann x.owner x.fresh in record {
+      fresh = w.0;
+      owner = x.owner;
+      fields = subst (λ (y : Option Place × Notice). AllAgree (stored_before f) y.0 y.1 d.notice) (λ i. (sym w.2 i, sym w.1 i)) x.fields;
+    }
+    stable (head_written d) x = let w = own_drafts d.ann x.owner x.fresh in record { fresh = w.0; owner = x.owner; old_head = ap (λ (s : Notice). s.old_head) w.1 ∙ x.old_head }
+    stable (takes_effect y n own) x = record {
+      installed = g.anns.installed y x.installed;
+      owner = x.owner;
+      stands = λ i e. let old = was y i x.installed x.owner e in let r = x.stands i old in (linearized ∙ r.0, linearized_stable y i n own old r.1);
+      only = λ w e o. x.only w (stood_there w e o) o;
+    }
     stable (linked p) x = shared_stable (linked p) tt x
     stable (head_seen p) x = shared_stable (head_seen p) tt x
     stable (tail_seen p) x = shared_stable (tail_seen p) tt x

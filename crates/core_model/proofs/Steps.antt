@@ -114,11 +114,20 @@ module _ (z : LaneSizes) (s : State) (L : Lawful z s) (c : ℕ) where
 
       batch_knows : AtPoint z (world s L.ghost) c k (first_point z c (s.callers c) (op ∷ op' ∷ ops))
       batch_knows = let one = one_ann in record {
-        call = (nothing_yet, ((known_caller, (refl, refl, refl, refl, refl, refl), some, (let e = some in omega arith), (λ i from e. absurd (omega arith)), ann_inside), tt));
+        call = (
+          nothing_yet,
+          (record { known = known_caller; describes = record { counts = refl; number = refl; order0 = refl; order1 = refl; order2 = refl; order3 = refl }; some = some; last = (let e = some in omega arith); taken = λ i from e. absurd (omega arith); inside = ann_inside }, tt),
+        );
         here = (
-          ((λ l below. let r = row_there l below in (r.at_home, r.inside, r.unlinked, r.is_item)), (λ l x below from e. absurd (omega arith)), (λ l _ less. absurd (omega arith)), (λ l _ less. absurd (omega arith)), λ l below _. (row_there l below).nil),
+          record {
+            free = λ l below. let r = row_there l below in record { at_home = r.at_home; inside = r.inside; unlinked = r.unlinked; is_item = r.is_item };
+            taken = λ l x below from e. absurd (omega arith);
+            values = λ l _ less. absurd (omega arith);
+            joined = λ l _ less. absurd (omega arith);
+            nil = λ l below _. (row_there l below).nil;
+          },
           (
-            ((L.callers c).unmade (s.callers c).made (le_refl _) made_below, div-mul-add c z.callers (s.callers c).made made_below, tt),
+            record { fresh = (L.callers c).unmade (s.callers c).made (le_refl _) made_below; owner = div-mul-add c z.callers (s.callers c).made made_below; fields = tt },
             (record { inside = some; row = (let e : item z c (s.callers c).taken ≡ item z c (s.callers c).taken + 0 = omega arith in e); value = refl }, tt),
           ),
         );

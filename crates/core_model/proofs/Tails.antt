@@ -31,8 +31,8 @@ module _ (z : LaneSizes) (s : State) (L : Lawful z s) (c : ℕ) where
       rows = L.list.rows;
       item_rows = L.list.item_rows;
       head = L.list.head;
-      tail = let inside = (next.2 G.tail count).0 in let from = L.list.tail.after_head in let lags = L.list.tail.lags (omega arith) (single G.tail count).1 in let here = count in record {
-        named = λ i. record { row = sym (next.2 G.tail count).1 i; count = (let y : p.count + 1 ≡ z.first + suc G.tail = omega arith in y) i };
+      tail = let inside = (next.there G.tail count).0 in let from = L.list.tail.after_head in let lags = L.list.tail.lags (omega arith) (single G.tail count).1 in let here = count in record {
+        named = λ i. record { row = sym (next.there G.tail count).1 i; count = (let y : p.count + 1 ≡ z.first + suc G.tail = omega arith in y) i };
         after_head = omega arith;
         within = omega arith;
         lags = λ below _. absurd (omega arith);
@@ -44,7 +44,7 @@ module _ (z : LaneSizes) (s : State) (L : Lawful z s) (c : ℕ) where
         (le_refl _) (omega arith) (λ _ _. refl) (λ _ _. refl) (omega arith) (λ _ _. (refl, refl))
         (λ a i e f. ⊎_elim (λ (here : G.tail ≡ i). absurd (not_here a i f here)) (λ (past : i + (s.memory.notice a).counts.enqs ≤ G.tail). inr (omega arith)) (L.announced.standing a i e f).tails)
         (λ a i f none. let reached = (L.announced.bound a i f).reached in let before = (L.announced.unrecorded a i f none).1 in absurd (not_here a i f (omega arith)))
-        (λ below _. let inside = (next.2 G.tail count).0 in let last = L.list.tail.lags (omega arith) (single G.tail count).1 in absurd (omega arith)) L.announced;
+        (λ below _. let inside = (next.there G.tail count).0 in let last = L.list.tail.lags (omega arith) (single G.tail count).1 in absurd (omega arith)) L.announced;
     told = L.told;
     pending = L.pending;
     callers = λ d. caller_stable z (λ _. ⊥) (world s G) W rely d (s.callers d) (λ _ _ x. x) (record { linearized = refl; made = refl; drafts = drafts_same z (world s G) W refl refl refl d; unmade = (L.callers d).unmade }) (L.callers d);
@@ -72,7 +72,7 @@ module _ (z : LaneSizes) (s : State) (L : Lawful z s) (c : ℕ) where
       path_same = λ _ _. refl;
       chained_same = λ _ _. refl;
       spot_own = λ _ u _. u;
-      on_same = λ i r on. (on.1, on.3, refl);
+      on_same = λ i r on. (on.spot, on.link, refl);
       link_own = λ _ _ _. refl;
       value_own = λ _ _ _. refl;
       value_path = λ _ _ _. refl;

@@ -1,5 +1,5 @@
 -- The answers of a batch: its owner, which has helped it, loads the values that its dequeues got.
-use Rattle.std.specs.Prelude.{ℕ, suc, List, [], ◌∷◌, true, Option, Some, None}
+use Rattle.std.specs.Prelude.{◌<◌, ℕ, suc, List, [], ◌∷◌, true, Option, Some, None}
 use Rattle.core_model.specs.declared.point.AnswerPoint.{AnswerPoint}
 use Rattle.core_model.specs.declared.point.AnswerPoint.TheVariants.{LoadOldTail, LoadLink, LoadValue}
 use Rattle.word_rows.specs.declared.place.Place.{Place}
@@ -20,6 +20,9 @@ use Rattle.core_model.specs.Batches.{gets}
 use Rattle.core_model.specs.State.{Caller, own_group, link_in, value_in, old_tail_in}
 use Rattle.core_model.specs.Help.{before_it}
 use Rattle.core_model.specs.Fact.{Fact, reads, tail_over, takes_effect, has_read, is_reading, linearized_is}
+use Rattle.bq_model.specs.declared.shape.Shape.{Shape}
+use Rattle.word_rows.specs.Sizes.{rows_of}
+use Rattle.core_model.specs.Fits.{HelpFits}
 
 abbrev pub act : AnswerPoint → Act
 act (LoadOldTail h) = Load (AnnWord h.ann field.OldTail)
@@ -54,3 +57,9 @@ abbrev pub knows : ℕ → Caller → AnswerPoint → List Fact
 knows c k (LoadOldTail h) = reads 4 h ∷ tail_over h.ann ∷ takes_effect h.ann k.started_at (own_group c k) ∷ []
 knows c k (LoadLink m r l) = has_read k.started_at (own_group c k) m k.values (suc l) r ∷ []
 knows c k (LoadValue m r l) = is_reading k.started_at (own_group c k) m k.values l r ∷ []
+
+-- what it has read fits in the lane
+abbrev pub fits : Shape → AnswerPoint → Type 0
+fits s (LoadOldTail h) = HelpFits s h
+fits s (LoadLink m r l) = r < rows_of s
+fits s (LoadValue m r l) = r < rows_of s

@@ -1,6 +1,6 @@
 -- A batch of several operations, until its announcement is installed: its owner stores the values and the links of its
 -- rows and the fields of its announcement.
-use Rattle.std.specs.Prelude.{ℕ, suc, ◌-◌, ◌==◌, List, [], ◌∷◌, cond, false}
+use Rattle.std.specs.Prelude.{◌<◌, ◌^◌, ℕ, suc, ◌-◌, ◌==◌, List, [], ◌∷◌, cond, false}
 use Rattle.core_model.specs.declared.point.BatchPoint.{BatchPoint}
 use Rattle.core_model.specs.declared.point.BatchPoint.TheVariants.{StoreValue, StoreChain, StoreField, LoadHead, Install}
 use Rattle.word_rows.specs.declared.place.Place.{Place}
@@ -94,3 +94,8 @@ knows m d (StoreChain i r n) = fills m.taken d.notice m.ops d.notice.counts.enqs
 knows m d (StoreField f) = filled m d f
 knows m d LoadHead = filled m d field.OldHead
 knows m d Install = head_written d ∷ filled m d field.OldHead
+
+-- the value that it stores is a word
+abbrev pub fits : BatchPoint → Type 0
+fits (StoreValue i r v) = v < 2 ^ 64
+fits _ = Unit {0}

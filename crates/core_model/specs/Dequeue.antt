@@ -1,5 +1,5 @@
 -- A dequeue: it finds the row behind the dummy, and moves HEAD to it.
-use Rattle.std.specs.Prelude.{List, [], ◌∷◌, cond, false}
+use Rattle.std.specs.Prelude.{◌<◌, List, [], ◌∷◌, cond, false}
 use Rattle.bq_model.specs.declared.op.Op.TheVariants.{Deq}
 use Rattle.bq_model.specs.declared.op.Answer.TheVariants.{Got, Empty}
 use Rattle.core_model.specs.declared.point.DequeuePoint.{DequeuePoint}
@@ -26,6 +26,9 @@ use Rattle.core_model.specs.State.{Command, head_in, tail_in, link_in, value_in}
 use Rattle.core_model.specs.Act.{same_place, is_node, behind, by_one}
 use Rattle.core_model.specs.Help.{help_of}
 use Rattle.core_model.specs.Fact.{Fact, linked, head_seen, tail_past, next_is, by_single, next_value, linearized_is, is_op}
+use Rattle.bq_model.specs.declared.shape.Shape.{Shape}
+use Rattle.word_rows.specs.Fits.{limits_of, PlaceFits}
+use Rattle.word_rows.specs.Sizes.{rows_of}
 
 abbrev pub act : DequeuePoint → Act
 act LoadHead = Load Head
@@ -77,3 +80,13 @@ knows (LoadTailOver p n) = linked p ∷ head_seen p ∷ next_is p n ∷ []
 knows (PassTail p n) = next_is p n ∷ by_single p ∷ []
 knows (LoadValue p n) = head_seen p ∷ next_is p n ∷ tail_past p ∷ []
 knows (MoveHead p n v) = next_is p n ∷ tail_past p ∷ next_value p v ∷ []
+
+-- what it has read fits in the lane
+abbrev pub fits : Shape → DequeuePoint → Type 0
+fits s LoadHead = Unit {0}
+fits s (LoadLink p) = PlaceFits (limits_of s) p
+fits s (LoadTail p n) = PlaceFits (limits_of s) p × (n < rows_of s)
+fits s (LoadTailOver p n) = PlaceFits (limits_of s) p × (n < rows_of s)
+fits s (PassTail p n) = PlaceFits (limits_of s) p × (n < rows_of s)
+fits s (LoadValue p n) = PlaceFits (limits_of s) p × (n < rows_of s)
+fits s (MoveHead p n v) = PlaceFits (limits_of s) p × (n < rows_of s)

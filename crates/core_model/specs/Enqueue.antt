@@ -1,5 +1,5 @@
 -- An enqueue of the value of an item, whose row is taken: it stores the value, and links the row behind the last one.
-use Rattle.std.specs.Prelude.{ℕ, Bool, List, [], ◌∷◌, cond, true, false}
+use Rattle.std.specs.Prelude.{◌<◌, ℕ, Bool, List, [], ◌∷◌, cond, true, false}
 use Rattle.bq_model.specs.declared.op.Op.TheVariants.{Enq}
 use Rattle.bq_model.specs.declared.op.Answer.TheVariants.{Done}
 use Rattle.word_rows.specs.declared.place.Place.{Place}
@@ -27,6 +27,9 @@ use Rattle.core_model.specs.State.{Caller, head_in, tail_in, link_in, own_group}
 use Rattle.core_model.specs.Act.{is_nil, by_one}
 use Rattle.core_model.specs.Fact.{Fact, owns, holds_item, linked, tail_seen, next_is, by_single, linearized_is, is_op, answered}
 use Rattle.core_model.specs.Help.{help_of}
+use Rattle.bq_model.specs.declared.shape.Shape.{Shape}
+use Rattle.word_rows.specs.Fits.{limits_of, PlaceFits}
+use Rattle.word_rows.specs.Sizes.{rows_of}
 
 abbrev pub act : Item → EnqueuePoint → Act
 act x StoreValue = Store (Value x.row) (OfValue x.value)
@@ -85,3 +88,11 @@ knows (LinkSingle p) = linked p ∷ tail_seen p ∷ []
 knows (PassTail p n) = next_is p n ∷ by_single p ∷ []
 knows (MoveTail p n) = next_is p n ∷ by_single p ∷ []
 knows _ = []
+
+-- what it has read fits in the lane
+abbrev pub fits : Shape → EnqueuePoint → Type 0
+fits s (LoadLink p) = PlaceFits (limits_of s) p
+fits s (LinkSingle p) = PlaceFits (limits_of s) p
+fits s (PassTail p n) = PlaceFits (limits_of s) p × (n < rows_of s)
+fits s (MoveTail p n) = PlaceFits (limits_of s) p × (n < rows_of s)
+fits s _ = Unit {0}

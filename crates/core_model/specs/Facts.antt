@@ -3,13 +3,16 @@ use Rattle.std.specs.Prelude.{◌≡◌, ◌≢◌, ℕ, suc, ◌+◌, ◌-◌, 
 use Rattle.bq_model.specs.declared.op.Op.{Op}
 use Rattle.bq_model.specs.declared.group.Group.{Group}
 use Rattle.bq_model.specs.History.{last_queue}
-use Rattle.excess_count.specs.Got.{enqueued, values_from}
+use Rattle.bq_model.specs.Values.{enqueued}
+use Rattle.excess_count.specs.Got.{values_from}
 use Rattle.word_rows.specs.Order.{order_word_of}
 use Rattle.word_rows.specs.declared.place.Place.{Place}
+use Rattle.word_rows.specs.declared.link_word.LinkWord.{LinkWord}
 use Rattle.word_rows.specs.declared.link_word.LinkWord.TheVariants.{Nil, Single}
 use Rattle.word_rows.specs.declared.location.AnnField.{AnnField}
 use Rattle.word_rows.specs.declared.location.AnnField.TheVariants as field
 use Rattle.core_model.specs.declared.point.Notice.{Notice}
+use Rattle.core_model.specs.declared.point.Draft.{Draft}
 use Rattle.core_model.specs.declared.point.Help.{Help}
 use Rattle.core_model.specs.declared.point.Point.{Point}
 use Rattle.core_model.specs.declared.point.Point.TheVariants.{Idle}
@@ -25,13 +28,17 @@ use Rattle.core_model.specs.Enqueue as enqueue
 use Rattle.core_model.specs.Dequeue as dequeue
 use Rattle.core_model.specs.Batch as batching
 use Rattle.core_model.specs.Answer as answering
-use Rattle.core_model.specs.Ghost.{unused, decided, World, positions, at, Unlinked, On, Installed}
+use Rattle.core_model.specs.Ghost.{Stage, unused, decided, World, positions, at, Unlinked, On, Installed}
 use Rattle.core_model.specs.Kept.{Stands, Kept}
 
 -- The announcement says of a command of caller c what it is.
-abbrev pub Describes : ℕ → Command → Notice → Type 0
-Describes c m n = (n.counts ≡ counted m.ops) × (n.number ≡ batch_number (length m.mine) c)
-    × (n.order0 ≡ order_word_of m.ops 0) × (n.order1 ≡ order_word_of m.ops 1) × (n.order2 ≡ order_word_of m.ops 2) × (n.order3 ≡ order_word_of m.ops 3)
+pub record Describes (c : ℕ) (m : Command) (n : Notice) : Type 0 where
+  pub counts : n.counts ≡ counted m.ops
+  pub number : n.number ≡ batch_number (length m.mine) c
+  pub order0 : n.order0 ≡ order_word_of m.ops 0
+  pub order1 : n.order1 ≡ order_word_of m.ops 1
+  pub order2 : n.order2 ≡ order_word_of m.ops 2
+  pub order3 : n.order3 ≡ order_word_of m.ops 3
 
 -- the field has what the notice says; OldTail isn't known
 abbrev pub Agrees : AnnField → Option Place → Notice → Notice → Type 0
@@ -63,7 +70,44 @@ abbrev pub AllAgree : List AnnField → Option Place → Notice → Notice → T
 AllAgree [] o s n = Unit {0}
 AllAgree (f ∷ fs) o s n = Agrees f o s n × AllAgree fs o s n
 
--- The announcement a is decided at the place i, and the group of its batch stands in the history behind n groups or
+-- the row is of caller c, and not linked
+pub record IsFree (z : LaneSizes) (c : ℕ) (spot : ℕ → Option ℕ) (r : ℕ) : Type 0 where
+  pub at_home : z.home r ≡ c
+  pub inside : r < z.rows
+  pub unlinked : spot r ≡ None
+  pub is_item : IsItem z r
+
+-- So many rows from `first` on are free, and none is one from the own row n on. They have the first i values of the
+-- operations, and the first j are joined, each to the next.
+pub record Fills (z : LaneSizes) (c : ℕ) (spot : ℕ → Option ℕ) (value : ℕ → ℕ) (link : ℕ → LinkWord) (n first rows : ℕ) (ops : List Op) (i j : ℕ) : Type 0 where
+  pub free : (l : ℕ) → l < rows → IsFree z c spot (first + l)
+  pub taken : (l x : ℕ) → l < rows → n ≤ x → item z c x ≢ first + l
+  pub values : (l : ℕ) → l < rows → l < i → value (first + l) ≡ get_or (enqueued ops) l 0
+  pub joined : (l : ℕ) → l < rows → l < j → link (first + l) ≡ Single (suc (first + l))
+  pub nil : (l : ℕ) → l < rows → j ≤ l → link (first + l) ≡ Nil
+
+-- the draft is that of the running batch of caller c, of an announcement of the lane that is none of those that come next
+pub record IsDraft (z : LaneSizes) (c : ℕ) (m : Command) (d : Draft) : Type 0 where
+  pub known : c < z.callers
+  pub describes : Describes c m d.notice
+  pub some : 0 < d.notice.counts.enqs
+  pub last : suc d.notice.last ≡ d.notice.first + d.notice.counts.enqs
+  pub taken : (i : ℕ) → m.made ≤ i → own_ann z c i ≢ d.ann
+  pub inside : d.ann < z.callers * z.callers
+
+-- The announcement of the draft is of caller c and not installed, and its fields before f are written.
+pub record Written (z : LaneSizes) (c : ℕ) (stage : Stage) (tail : Option Place) (said : Notice) (d : Draft) (f : AnnField) : Type 0 where
+  pub fresh : stage ≡ unused
+  pub owner : owner_of z d.ann ≡ c
+  pub fields : AllAgree (stored_before f) tail said d.notice
+
+-- it is, and its OldHead is written
+pub record HeadWritten (z : LaneSizes) (c : ℕ) (stage : Stage) (said : Notice) (d : Draft) : Type 0 where
+  pub fresh : stage ≡ unused
+  pub owner : owner_of z d.ann ≡ c
+  pub old_head : said.old_head ≡ d.notice.old_head
+
+-- The announcement a is decided at the position i, and the group of its batch stands in the history behind n groups or
 -- more, on the queue of the rows from its old dummy up to there.
 pub record Linearized (z : LaneSizes) (w : World) (a i n : ℕ) (g : Group) : Type 0 where
   pub pre : List Group
@@ -71,7 +115,7 @@ pub record Linearized (z : LaneSizes) (w : World) (a i n : ℕ) (g : Group) : Ty
   pub stands : w.history ≡ (pre ++ g ∷ []) ++ post
   pub since_start : n ≤ length pre
   pub counts : (w.memory.notice a).counts ≡ counted g.ops
-  -- the place of the old dummy, and how long the queue was
+  -- the position of the old dummy, and how long the queue was
   pub dummy : ℕ
   pub old_head : (w.memory.notice a).old_head ≡ at z.first w.ghost.path dummy
   pub before : dummy ≤ i
@@ -80,7 +124,7 @@ pub record Linearized (z : LaneSizes) (w : World) (a i n : ℕ) (g : Group) : Ty
   pub values : take (gets (w.memory.notice a).counts (i - dummy)) (values_from (last_queue pre) g.ops) ≡ run (λ j. w.memory.value (w.ghost.path j)) (suc dummy) (gets (w.memory.notice a).counts (i - dummy))
   pub rows : (x : ℕ) → x ≤ gets (w.memory.notice a).counts (i - dummy) → On w (dummy + x) (w.ghost.path (dummy + x))
 
--- what caller c, which keeps k, knows at a turn of its call, and besides of the step
+-- what caller c, which keeps k, knows at any point of its call, and besides at this one
 abbrev pub call_knows : ℕ → Caller → Point → List Fact
 call_knows c k Idle = linearized_is false ∷ []
 call_knows c k (point.Enqueue x p) = enqueue.call_knows c k x p
@@ -131,6 +175,80 @@ module _ (z : LaneSizes) (w : World) where
     pub last_row : w.ghost.path (linearized.dummy + read) ≡ r
     pub values : vs ≡ run (λ j. w.memory.value (w.ghost.path j)) (suc linearized.dummy) read
 
+  -- the same where the row r is the next one, with l behind it
+  pub record IsReading (n : ℕ) (g : Group) (m : ℕ) (vs : List ℕ) (l r : ℕ) : Type 0 where
+    pub ann : ℕ
+    pub position : ℕ
+    pub is_decided : w.ghost.stage ann ≡ decided position
+    pub linearized : Linearized z w ann position n g
+    pub read : ℕ
+    pub queued : m ≡ position - linearized.dummy
+    pub left : read + suc l ≡ gets (w.memory.notice ann).counts m
+    pub next_row : w.ghost.path (suc (linearized.dummy + read)) ≡ r
+    pub values : vs ≡ run (λ j. w.memory.value (w.ghost.path j)) (suc linearized.dummy) read
+
+  -- the place is that of a linked row
+  pub record Linked (p : Place) : Type 0 where
+    pub position : ℕ
+    pub count : p.count ≡ z.first + position
+    pub on : On w position p.row
+    pub inside : p.row < z.rows
+
+  -- the row n is linked behind this place
+  pub record NextIs (p : Place) (n : ℕ) : Type 0 where
+    pub from : z.first ≤ p.count
+    pub inside : n < z.rows
+    pub there : (i : ℕ) → p.count ≡ z.first + i → (suc i < positions w.ghost) × (w.ghost.path (suc i) ≡ n)
+
+  -- the place is that of the row behind which the announcement is decided
+  pub record IsDecidedBehind (a : ℕ) (p : Place) : Type 0 where
+    pub position : ℕ
+    pub is_decided : w.ghost.stage a ≡ decided position
+    pub inside : position < positions w.ghost
+    pub place : p ≡ at z.first w.ghost.path position
+
+  -- OldTail of the announcement is this place
+  pub record HasOldTail (a : ℕ) (q : Place) : Type 0 where
+    pub position : ℕ
+    pub is_decided : w.ghost.stage a ≡ decided position
+    pub old_tail : w.memory.old_tail a ≡ Some q
+
+  -- OldTail of the announcement is known, and TAIL isn't there any more
+  pub record IsOver (a : ℕ) : Type 0 where
+    pub position : ℕ
+    pub is_decided : w.ghost.stage a ≡ decided position
+    pub known : (q : Place) × (w.memory.old_tail a ≡ Some q)
+    pub past : w.ghost.ann ≡ Some a → position + (w.memory.notice a).counts.enqs ≤ w.ghost.tail
+
+  -- the batch of the helped announcement gets m values
+  pub record Gets (h : Help) (m : ℕ) : Type 0 where
+    pub position : ℕ
+    pub is_decided : w.ghost.stage h.ann ≡ decided position
+    pub shown : w.ghost.ann ≡ Some h.ann → w.ghost.shown ≡ m
+    pub inside : h.old_head.count + m < z.first + positions w.ghost
+
+  -- the row r lies x rows behind the dummy, and l before the new one
+  pub record LiesBefore (r l : ℕ) : Type 0 where
+    pub behind : ℕ
+    pub sum : behind + l ≡ w.ghost.shown
+    pub inside : w.ghost.head + behind < positions w.ghost
+    pub row : w.ghost.path (w.ghost.head + behind) ≡ r
+
+  -- the walk to the new dummy has come to the row r, with l links to go
+  pub record Walks (a r l : ℕ) : Type 0 where
+    pub position : ℕ
+    pub is_decided : w.ghost.stage a ≡ decided position
+    pub inside : r < z.rows
+    pub lies : w.ghost.ann ≡ Some a → LiesBefore r l
+
+  -- The announcement a of caller c is installed, and is its only one in HEAD. Where it is decided, its group stands in the
+  -- history behind n groups or more.
+  pub record TakesEffect (c a n : ℕ) (g : Group) : Type 0 where
+    pub installed : Installed w a
+    pub owner : owner_of z a ≡ c
+    pub stands : (i : ℕ) → w.ghost.stage a ≡ decided i → (w.ghost.linearized c ≡ true) × Linearized z w a i n g
+    pub only : (x : ℕ) → w.ghost.ann ≡ Some x → owner_of z x ≡ c → x ≡ a
+
 module _ (z : LaneSizes) where
   -- In the world w, of caller c.
   module _ (w : World) (c : ℕ) where
@@ -145,12 +263,11 @@ module _ (z : LaneSizes) where
     Holds (owns n r) = Owns r × ((i : ℕ) → n ≤ i → item z c i ≢ r)
     Holds (holds_item x) = Owns x.row × (w.memory.value x.row ≡ x.value)
     Holds (unused_rows n) = (i : ℕ) → n ≤ i → i < z.items → c < z.callers → Owns (item z c i)
-    Holds (linked p) = (i : ℕ) × (p.count ≡ z.first + i) × On w i p.row × (p.row < z.rows)
+    Holds (linked p) = Linked z w p
     Holds (head_seen p) = p.count ≤ z.first + w.ghost.head
     Holds (tail_seen p) = p.count ≤ z.first + w.ghost.tail
     Holds (tail_past p) = p.count < z.first + w.ghost.tail
-    Holds (next_is p n) = (z.first ≤ p.count) × (n < z.rows)
-        × ((i : ℕ) → p.count ≡ z.first + i → (suc i < positions w.ghost) × (w.ghost.path (suc i) ≡ n))
+    Holds (next_is p n) = NextIs z w p n
     Holds (by_single p) = (i : ℕ) → p.count ≡ z.first + i → (suc i < positions w.ghost) × (w.ghost.chained i ≡ false)
     Holds (next_value p v) = (p.count ≤ z.first + w.ghost.head)
         × (p.count ≡ z.first + w.ghost.head → (0 < w.ghost.rest) × (w.memory.value (w.ghost.path (suc w.ghost.head)) ≡ v))
@@ -160,30 +277,23 @@ module _ (z : LaneSizes) where
     Holds (since n) = n ≤ length w.history
     Holds (kept k) = Kept w.history c k
     Holds (rests k) = (k.ops ≡ []) × (k.outcome ≢ None → IsSome k.ended_at)
-    Holds (drafts m d) = (c < z.callers) × Describes c m d.notice × (0 < d.notice.counts.enqs) × (suc d.notice.last ≡ d.notice.first + d.notice.counts.enqs)
-        × ((i : ℕ) → m.made ≤ i → own_ann z c i ≢ d.ann) × (d.ann < z.callers * z.callers)
-    Holds (fills n s ops i j) = ((l : ℕ) → l < s.counts.enqs → (z.home (s.first + l) ≡ c) × (s.first + l < z.rows) × Unlinked w (s.first + l) × IsItem z (s.first + l))
-        × ((l x : ℕ) → l < s.counts.enqs → n ≤ x → item z c x ≢ s.first + l)
-        × ((l : ℕ) → l < s.counts.enqs → l < i → w.memory.value (s.first + l) ≡ get_or (enqueued ops) l 0)
-        × ((l : ℕ) → l < s.counts.enqs → l < j → w.memory.link (s.first + l) ≡ Single (suc (s.first + l)))
-        × ((l : ℕ) → l < s.counts.enqs → j ≤ l → w.memory.link (s.first + l) ≡ Nil)
+    Holds (drafts m d) = IsDraft z c m d
+    Holds (fills n s ops i j) = Fills z c w.ghost.spot w.memory.value w.memory.link n s.first s.counts.enqs ops i j
     Holds (enqueues ops s i r v) = Enqueues ops s i r v
     Holds (goes_on s i r n) = Chains s i r n
-    Holds (written d f) = (w.ghost.stage d.ann ≡ unused) × (owner_of z d.ann ≡ c) × AllAgree (stored_before f) (w.memory.old_tail d.ann) (w.memory.notice d.ann) d.notice
-    Holds (head_written d) = (w.ghost.stage d.ann ≡ unused) × (owner_of z d.ann ≡ c) × ((w.memory.notice d.ann).old_head ≡ d.notice.old_head)
+    Holds (written d f) = Written z c (w.ghost.stage d.ann) (w.memory.old_tail d.ann) (w.memory.notice d.ann) d f
+    Holds (head_written d) = HeadWritten z c (w.ghost.stage d.ann) (w.memory.notice d.ann) d
     Holds (reads n h) = Reads z w n h
     Holds (stands_at a p) = Installed w a × (w.ghost.ann ≡ Some a → z.first + w.ghost.head ≤ p.count)
     Holds (before_end a p) = Installed w a × ((i : ℕ) → p.count ≡ z.first + i → (i < positions w.ghost) × ((j : ℕ) → w.ghost.stage a ≡ decided j → suc i < positions w.ghost))
-    Holds (is_old_tail a p) = Installed w a × (w.ghost.ann ≡ Some a → (i : ℕ) × (w.ghost.stage a ≡ decided i) × (i < positions w.ghost) × (p ≡ at z.first w.ghost.path i))
-    Holds (old_tail_is a q) = (i : ℕ) × (w.ghost.stage a ≡ decided i) × (w.memory.old_tail a ≡ Some q)
-    Holds (tail_over a) = (i : ℕ) × (w.ghost.stage a ≡ decided i) × ((q : Place) × (w.memory.old_tail a ≡ Some q)) × (w.ghost.ann ≡ Some a → i + (w.memory.notice a).counts.enqs ≤ w.ghost.tail)
-    Holds (gets_so_many h m) = (i : ℕ) × (w.ghost.stage h.ann ≡ decided i) × (w.ghost.ann ≡ Some h.ann → w.ghost.shown ≡ m) × (h.old_head.count + m < z.first + positions w.ghost)
-    Holds (walks a r l) = (i : ℕ) × (w.ghost.stage a ≡ decided i) × (r < z.rows) × (w.ghost.ann ≡ Some a → (x : ℕ) × (x + l ≡ w.ghost.shown) × (w.ghost.head + x < positions w.ghost) × (w.ghost.path (w.ghost.head + x) ≡ r))
-    Holds (takes_effect a n g) = Installed w a × (owner_of z a ≡ c) × ((i : ℕ) → w.ghost.stage a ≡ decided i → (w.ghost.linearized c ≡ true) × Linearized z w a i n g)
-        × ((x : ℕ) → w.ghost.ann ≡ Some x → owner_of z x ≡ c → x ≡ a)
+    Holds (is_old_tail a p) = Installed w a × (w.ghost.ann ≡ Some a → IsDecidedBehind z w a p)
+    Holds (old_tail_is a q) = HasOldTail z w a q
+    Holds (tail_over a) = IsOver z w a
+    Holds (gets_so_many h m) = Gets z w h m
+    Holds (walks a r l) = Walks z w a r l
+    Holds (takes_effect a n g) = TakesEffect z w c a n g
     Holds (has_read n g m vs l r) = HasRead z w n g m vs l r
-    Holds (is_reading n g m vs l r) = (a : ℕ) × (i : ℕ) × (w.ghost.stage a ≡ decided i) × (R : Linearized z w a i n g) × (x : ℕ) × (m ≡ i - R.dummy) × (x + suc l ≡ gets (w.memory.notice a).counts m)
-        × (w.ghost.path (suc (R.dummy + x)) ≡ r) × (vs ≡ run (λ j. w.memory.value (w.ghost.path j)) (suc R.dummy) x)
+    Holds (is_reading n g m vs l r) = IsReading z w n g m vs l r
 
     abbrev pub Each : List Fact → Type 0
     Each [] = Unit {0}
@@ -195,7 +305,7 @@ module _ (z : LaneSizes) where
       pub call : Each w c all
       pub here : Each w c now
 
-    -- what it knows at the turn t, where it keeps k
+    -- what it knows at the point t, where it keeps k
     abbrev pub AtPoint : Caller → Point → Type 0
     AtPoint k t = Parts (call_knows c k t) (knows c k t)
 

@@ -1,11 +1,23 @@
--- What the words of a lane hold, as `word_rows` codes it.
+-- What of a lane `word_rows` can code: what a caller keeps, and what its step does with a word.
+use Rattle.std.specs.Prelude.{◌<◌, ◌^◌}
+use Rattle.bq_model.specs.declared.shape.Shape.{Shape}
 use Rattle.word_rows.specs.declared.head_word.HeadWord.TheVariants.{Node}
 use Rattle.word_rows.specs.declared.location.AnnField.TheVariants.{OldHead}
 use Rattle.word_rows.specs.declared.location.Location.{Location}
 use Rattle.word_rows.specs.declared.location.Location.TheVariants.{Mark, NodeHazard, AnnHazard, AnnWord}
 use Rattle.word_rows.specs.declared.content.Content.{Content}
 use Rattle.word_rows.specs.declared.content.Content.TheVariants.{OfHead}
-use Rattle.word_rows.specs.Contents.{IsOfKind}
+use Rattle.word_rows.specs.Contents.{IsOfKind, MayHold}
+use Rattle.word_rows.specs.Fits.{limits_of, PlaceFits, CountsFit, BatchFits}
+use Rattle.word_rows.specs.Sizes.{rows_of, anns_of}
+use Rattle.core_model.specs.declared.act.Act.{Act}
+use Rattle.core_model.specs.declared.act.Act.TheVariants.{Load, Store, Exchange}
+use Rattle.core_model.specs.declared.point.Item.{Item}
+use Rattle.core_model.specs.declared.point.Notice.{Notice}
+use Rattle.core_model.specs.declared.point.Draft.{Draft}
+use Rattle.core_model.specs.declared.point.Back.{Back}
+use Rattle.core_model.specs.declared.point.Back.TheVariants as back
+use Rattle.core_model.specs.declared.point.Help.{Help}
 
 -- A content that a step can store into the word. OldHead names a node; no step stores into marks and hazards yet.
 abbrev pub IsHeld : Location → Content → Type 0
@@ -15,3 +27,42 @@ IsHeld (Mark r) x = ⊥
 IsHeld (NodeHazard c) x = ⊥
 IsHeld (AnnHazard c) x = ⊥
 IsHeld l x = IsOfKind l x
+
+module _ (s : Shape) where
+  pub record ItemFits (x : Item) : Type 0 where
+    pub row : x.row < rows_of s
+    pub value : x.value < 2 ^ 64
+
+  pub record NoticeFits (n : Notice) : Type 0 where
+    pub old_head : PlaceFits (limits_of s) n.old_head
+    pub first : n.first < rows_of s
+    pub last : n.last < rows_of s
+    pub counts : CountsFit n.counts
+    pub number : BatchFits (limits_of s) n.number
+    pub order0 : n.order0 < 2 ^ 64
+    pub order1 : n.order1 < 2 ^ 64
+    pub order2 : n.order2 < 2 ^ 64
+    pub order3 : n.order3 < 2 ^ 64
+
+  abbrev pub DraftFits : Draft → Type 0
+  DraftFits d = (d.ann < anns_of s) × NoticeFits d.notice
+
+  abbrev pub BackFits : Back → Type 0
+  BackFits back.Own = Unit {0}
+  BackFits (back.Enqueue x) = ItemFits x
+  BackFits back.Dequeue = Unit {0}
+  BackFits (back.Batch d) = DraftFits d
+
+  pub record HelpFits (h : Help) : Type 0 where
+    pub ann : h.ann < anns_of s
+    pub old_head : PlaceFits (limits_of s) h.old_head
+    pub first : h.first < rows_of s
+    pub last : h.last < rows_of s
+    pub counts : CountsFit h.counts
+    pub goes_back : BackFits h.back
+
+  -- what the step expects, and what it stores, may stand in its word
+  abbrev pub ActFits : Act → Type 0
+  ActFits (Load l) = Unit {0}
+  ActFits (Store l x) = MayHold s l x
+  ActFits (Exchange l old new) = MayHold s l old × MayHold s l new

@@ -1,4 +1,4 @@
--- The places of a lane's rows, how far its announcements are, and what else its words don't say.
+-- The positions of a lane's rows, how far its announcements are, and what else its words don't say.
 use Rattle.std.specs.Prelude.{◌≡◌, ◌≢◌, ℕ, suc, ◌+◌, ◌<◌, Bool, true, false, List, Option, Some, None}
 use Rattle.bq_model.specs.declared.group.Group.{Group}
 use Rattle.word_rows.specs.declared.place.Place.{Place}
@@ -13,18 +13,18 @@ pub data Stage : Type 0 where
   unused : Stage
   -- it stands in HEAD, and its rows aren't linked
   waiting : Stage
-  -- its rows were linked behind the row at this place
+  -- its rows were linked behind the row at this position
   decided : ℕ → Stage
 
--- What the words don't say of a lane. Each row that was ever linked has a place, from 0 on; the row at the place i has
--- the count `first + i`.
+-- What the words don't say of a lane. Each row that was ever linked has a position, from 0 on; the row at the position i
+-- has the count `first + i`.
 pub record Ghost : Type 0 where
-  -- the row at a place, and whether its link is a Chain
+  -- the row at a position, and whether its link is a Chain
   pub path : ℕ → ℕ
   pub chained : ℕ → Bool
-  -- the place of a row since it was linked last; none while it is unused or taken
+  -- the position of a row since it was linked last; none while it is unused or taken
   pub spot : ℕ → Option ℕ
-  -- the place of the dummy, how many rows lie behind it, and the place that TAIL names
+  -- the position of the dummy, how many rows lie behind it, and the position that TAIL names
   pub head : ℕ
   pub rest : ℕ
   pub tail : ℕ
@@ -37,10 +37,10 @@ pub record Ghost : Type 0 where
   -- how far each announcement is, and the rows of the one that waits, in order
   pub stage : ℕ → Stage
   pub chain : ℕ → ℕ
-  -- the announcement whose rows were linked behind a place
+  -- the announcement whose rows were linked behind a position
   pub cause : ℕ → ℕ
 
--- how many places there are
+-- how many positions there are
 abbrev pub positions : Ghost → ℕ
 positions g = suc (g.head + g.rest)
 
@@ -55,21 +55,24 @@ abbrev pub joint : Bool → ℕ → LinkWord
 joint true r = Chain r
 joint false r = Single r
 
--- the word of the place i
+-- the place at the position i
 abbrev pub at : ℕ → (ℕ → ℕ) → ℕ → Place
 at first path i = place (path i) (first + i)
 
 abbrev pub Unlinked : World → ℕ → Type 0
 Unlinked w r = w.ghost.spot r ≡ None
 
--- the link of r is that of the row at the place i
+-- the link of r is that of the row at the position i
 abbrev pub LinkAt : World → ℕ → ℕ → Type 0
 LinkAt w i r = (suc i ≡ positions w.ghost → w.memory.link r ≡ Nil)
     × (suc i < positions w.ghost → w.memory.link r ≡ joint (w.ghost.chained i) (w.ghost.path (suc i)))
 
--- the row r is at the place i
-abbrev pub On : World → ℕ → ℕ → Type 0
-On w i r = (i < positions w.ghost) × (w.ghost.spot r ≡ Some i) × (w.ghost.path i ≡ r) × LinkAt w i r
+-- the row r is at the position i
+pub record On (w : World) (i r : ℕ) : Type 0 where
+  pub inside : i < positions w.ghost
+  pub spot : w.ghost.spot r ≡ Some i
+  pub row : w.ghost.path i ≡ r
+  pub link : LinkAt w i r
 
 abbrev pub Installed : World → ℕ → Type 0
 Installed w a = w.ghost.stage a ≢ unused

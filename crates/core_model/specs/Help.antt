@@ -1,5 +1,5 @@
 -- A help: it reads the announcement in HEAD, links its chain, records its old tail, and moves TAIL and HEAD over it.
-use Rattle.std.specs.Prelude.{ℕ, zero, suc, ◌-◌, ◌==◌, nat_lt, cond, List, [], ◌∷◌, length, Option, Some, None, false}
+use Rattle.std.specs.Prelude.{◌<◌, ℕ, zero, suc, ◌-◌, ◌==◌, nat_lt, cond, List, [], ◌∷◌, length, Option, Some, None, false}
 use Rattle.bq_model.specs.declared.op.Op.TheVariants.{Enq, Deq}
 use Rattle.word_rows.specs.declared.place.Place.{Place}
 use Rattle.word_rows.specs.declared.head_word.HeadWord.TheVariants.{Node, Ann}
@@ -31,6 +31,9 @@ use Rattle.core_model.specs.Batches.{gets}
 use Rattle.core_model.specs.State.{Command, tail_in, link_in, old_tail_in}
 use Rattle.core_model.specs.Act.{same_place, far_behind, by_one}
 use Rattle.core_model.specs.Fact.{Fact, owns, holds_item, linked, tail_seen, next_is, by_single, linearized_is, is_op, reads, stands_at, before_end, is_old_tail, old_tail_is, tail_over, gets_so_many, walks, takes_effect, batch_facts}
+use Rattle.bq_model.specs.declared.shape.Shape.{Shape}
+use Rattle.word_rows.specs.Fits.{limits_of, PlaceFits}
+use Rattle.word_rows.specs.Sizes.{rows_of}
 
 -- the help of an announcement of which nothing is read yet
 abbrev pub help_of : ℕ → Back → Help
@@ -159,3 +162,16 @@ knows h (MoveTailOver q) = old_tail_is h.ann q ∷ []
 knows h (LoadWalk m r l) = walks h.ann r (suc l) ∷ gets_so_many h m ∷ tail_over h.ann ∷ []
 knows h (MoveHead m r) = walks h.ann r 0 ∷ gets_so_many h m ∷ tail_over h.ann ∷ []
 knows h _ = []
+
+-- what it has read fits in the lane
+abbrev pub fits : Shape → HelpPoint → Type 0
+fits s (LoadOldTail p) = PlaceFits (limits_of s) p
+fits s (LoadLink p) = PlaceFits (limits_of s) p
+fits s (LinkChain p) = PlaceFits (limits_of s) p
+fits s (PassTail p n) = PlaceFits (limits_of s) p × (n < rows_of s)
+fits s (RecordTail p) = PlaceFits (limits_of s) p
+fits s (LoadTailOver q) = PlaceFits (limits_of s) q
+fits s (MoveTailOver q) = PlaceFits (limits_of s) q
+fits s (LoadWalk m r l) = r < rows_of s
+fits s (MoveHead m r) = r < rows_of s
+fits s _ = Unit {0}

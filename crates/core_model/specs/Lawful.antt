@@ -6,7 +6,7 @@ use Rattle.bq_model.specs.History.{operations, last_queue}
 use Rattle.bq_model.specs.Own.{mine}
 use Rattle.bq_model.specs.Proper.{IsProper}
 use Rattle.excess_count.specs.Excess.{enqueue_count}
-use Rattle.excess_count.specs.Got.{enqueued}
+use Rattle.bq_model.specs.Values.{enqueued}
 use Rattle.word_rows.specs.declared.place.Place.{Place}
 use Rattle.word_rows.specs.declared.head_word.HeadWord.{HeadWord}
 use Rattle.word_rows.specs.declared.head_word.HeadWord.TheVariants.{Node, Ann}
@@ -34,7 +34,7 @@ pub record Listed (rows : ℕ) (link : ℕ → LinkWord) (path : ℕ → ℕ) (c
   -- each is linked to the next, and the last one to none
   pub joined : (i : ℕ) → head ≤ i → i < head + rest → link (path i) ≡ joint (chained i) (path (suc i))
   pub last : link (path (head + rest)) ≡ Nil
-  -- each is at one place alone
+  -- each is at one position alone
   pub spots : (i : ℕ) → head ≤ i → i < suc (head + rest) → spot (path i) ≡ Some i
   pub inside : (i : ℕ) → i < suc (head + rest) → path i < rows
 
@@ -59,7 +59,7 @@ pub record Headed (first : ℕ) (word : HeadWord) (path : ℕ → ℕ) (head res
   pub none : ann ≡ None → shown ≡ 0
   pub fits : shown + queued ≡ rest
 
--- the groups of a caller are those of its ended commands, and that of the running one where it has landed
+-- the groups of a caller are those of its ended commands, and that of the running one where that has taken effect
 abbrev pub OwnGroups : ℕ → List Group → Caller → Bool → Type 0
 OwnGroups c h k linearized = mine h c ≡ k.mine ++ cond linearized (own_group c k ∷ []) []
 
@@ -78,7 +78,7 @@ LinksIn rows (Single r) = r < rows
 LinksIn rows (Chain r) = r < rows
 LinksIn rows _ = Unit {0}
 
--- the rows of a decided announcement lie behind the place i, for ever
+-- the rows of a decided announcement lie behind the position i, for ever
 pub record Bound (first : ℕ) (path : ℕ → ℕ) (chained : ℕ → Bool) (cause : ℕ → ℕ) (total tail : ℕ) (notice : Notice) (a i : ℕ) : Type 0 where
   pub causes : cause i ≡ a
   pub by_chain : chained i ≡ true
@@ -100,7 +100,7 @@ pub record Standing (head shown tail : ℕ) (notice : Notice) (i : ℕ) : Type 0
   pub inside : head + shown ≤ i + notice.counts.enqs
   pub tails : (tail ≡ i) ⊎ (i + notice.counts.enqs ≤ tail)
 
--- the announcements, so many, among `total` rows behind the place 0
+-- the announcements, so many, among `total` rows behind the position 0
 pub record Stages (first anns : ℕ) (stage : ℕ → Stage) (ann : Option ℕ) (notice : ℕ → Notice) (old_tail : ℕ → Option Place)
     (path : ℕ → ℕ) (chained : ℕ → Bool) (cause : ℕ → ℕ) (head total shown tail : ℕ) : Type 0 where
   -- one in HEAD is installed, and its OldHead names the dummy; one that waits is in HEAD, with nothing shown behind the dummy
@@ -129,15 +129,17 @@ abbrev pub HelpsOwn : Point → Type 0
 HelpsOwn (point.Help h p) = IsOwn h.back
 HelpsOwn _ = ⊥
 
--- An announcement in HEAD says what the command of its owner c, which keeps k, is, and the owner helps it. Where it is
--- decided, its rows have the values of the enqueues in order.
-pub record Told (value path : ℕ → ℕ) (stage : Stage) (notice : Notice) (c : ℕ) (k : Caller) : Type 0 where
+-- An announcement in HEAD says what the command of its owner c, which keeps k, is, and names rows of it, and the owner helps
+-- it. Where it is decided, its rows have the values of the enqueues in order.
+pub record Told (home value path : ℕ → ℕ) (stage : Stage) (notice : Notice) (c : ℕ) (k : Caller) : Type 0 where
   pub describes : Describes c (command k) notice
+  pub first : home notice.first ≡ c
+  pub last : home notice.last ≡ c
   pub helps : HelpsOwn k.point
   pub values : (i : ℕ) → stage ≡ decided i → enqueued k.ops ≡ run (λ j. value (path j)) (suc i) notice.counts.enqs
 
 abbrev pub IsTold : LaneSizes → Memory → Ghost → (ℕ → Caller) → ℕ → Type 0
-IsTold z m g callers a = g.ann ≡ Some a → Told m.value g.path (g.stage a) (m.notice a) (owner_of z a) (callers (owner_of z a))
+IsTold z m g callers a = g.ann ≡ Some a → Told z.home m.value g.path (g.stage a) (m.notice a) (owner_of z a) (callers (owner_of z a))
 
 -- The rows of an announcement that waits are unlinked rows of its owner c, which keeps k, joined by Single links, with
 -- the values of the enqueues in order.

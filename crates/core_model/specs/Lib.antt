@@ -6,12 +6,14 @@ pub mod Batches
 pub mod State
 pub mod Act
 pub mod Fact
+pub mod Fits
 pub mod Help
 pub mod Enqueue
 pub mod Dequeue
 pub mod Batch
 pub mod Answer
 pub mod Step
+pub mod Coded
 pub mod Start
 pub mod Kind
 pub mod Ranges
@@ -21,7 +23,7 @@ pub mod Once
 pub mod Ended
 pub mod Alone
 pub mod Noted
-pub mod Fits
 pub mod Facts
 pub mod Lawful
 pub mod Shown
+pub mod Saying

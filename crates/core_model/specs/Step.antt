@@ -1,12 +1,12 @@
 -- One atomic step of one caller: it reads one word, stores into that word, and changes what its caller keeps. All of this
--- follows from the caller's turn and from what the word had.
+-- follows from the caller's point and from what the word had.
 use Rattle.std.specs.Prelude.{ℕ, zero, suc, ◌++◌, Bool, true, false, cond, List, [], ◌∷◌, length, get_or, Some}
 use Rattle.bq_model.specs.declared.op.Answer.{Answer}
 use Rattle.bq_model.specs.declared.group.Group.{Group}
 use Rattle.word_rows.specs.declared.location.Location.{Location}
 use Rattle.word_rows.specs.declared.location.Location.TheVariants.{Head}
 use Rattle.word_rows.specs.declared.content.Content.{Content}
-use Rattle.excess_count.specs.Got.{enqueued}
+use Rattle.bq_model.specs.Values.{enqueued}
 use Rattle.core_model.specs.declared.act.Act.{Act}
 use Rattle.core_model.specs.declared.act.Act.TheVariants.{Load}
 use Rattle.core_model.specs.declared.course.Course.{Course}
@@ -103,12 +103,12 @@ followed n c k (Fills d i r) = stepped k (point.Batch d (batch.StoreValue i r (g
 followed n c k (Reads m r l) = reads_on n c k m r l []
 followed n c k (ReadsMore m r l v) = reads_on n c k m r l (k.values ++ v ∷ [])
 
--- what it keeps after the step at the turn t that found x
+-- what it keeps after the step at the point t that found x
 abbrev pub after : ℕ → ℕ → Caller → Point → Content → Caller
 after n c k t x = followed n c k (course t x)
 
 module _ (z : LaneSizes) where
-  -- the step of caller c at the turn t, where its word has x
+  -- the step of caller c at the point t, where its word has x
   abbrev pub history_with : State → ℕ → Point → Content → List Group
   history_with s c t x = history_after (linearizes t x) s.history (own_group (group_owner z c t) (s.callers (group_owner z c t)))
 

@@ -1,14 +1,16 @@
 // Laws of the pure machine. Each is proved of every lane and every state; the functions do nothing.
-ghost use Rattle.std.specs.Prelude.{◌≡◌, ◌≢◌, ◌↔◌, ◌*◌, ◌<◌, ◌^◌, ◌++◌, ℕ, List, [], ◌∷◌, length, Some};
+ghost use Rattle.std.specs.Prelude.{◌≡◌, ◌≢◌, ◌↔◌, ◌*◌, ◌<◌, ◌^◌, ◌++◌, ℕ, List, [], ◌∷◌, length, get_or, ◌≤◌, Some};
 ghost use Rattle.bq_model.specs.declared.group.Group.{Group};
 ghost use Rattle.bq_model.specs.declared.op.Op.{Op};
 ghost use Rattle.bq_model.specs.declared.shape.Shape.{Shape};
 ghost use Rattle.bq_model.specs.History.{last_queue};
 ghost use Rattle.bq_model.specs.Own.{mine};
+ghost use Rattle.bq_model.specs.Values.{enqueued};
 ghost use Rattle.word_rows.specs.declared.head_word.HeadWord.TheVariants.{Node, Ann};
 ghost use Rattle.word_rows.specs.declared.link_word.LinkWord.TheVariants.{Nil};
 ghost use Rattle.word_rows.specs.declared.location.Location.{Location};
 ghost use Rattle.word_rows.specs.declared.place.Place.{Place};
+ghost use Rattle.word_rows.specs.Contents.{MayHold};
 ghost use Rattle.word_rows.specs.Homes.{IsHome};
 ghost use Rattle.word_rows.specs.Opening.{opening_of};
 ghost use Rattle.core_model.specs.declared.point.CallEnd.TheVariants.{Done};
@@ -17,7 +19,9 @@ ghost use Rattle.core_model.specs.declared.point.Point.{Point};
 ghost use Rattle.core_model.specs.declared.point.HelpPoint.{HelpPoint};
 ghost use Rattle.core_model.specs.declared.point.Point.TheVariants.{Idle};
 ghost use Rattle.core_model.specs.Alone.{GoesOnOrEnds};
+ghost use Rattle.core_model.specs.Coded.{IsCoded};
 ghost use Rattle.core_model.specs.Ended.{EndedDone};
+ghost use Rattle.core_model.specs.Fits.{ActFits};
 ghost use Rattle.core_model.specs.LaneSizes.{LaneSizes, lane_sizes};
 ghost use Rattle.core_model.specs.Lawful.{Lawful};
 ghost use Rattle.core_model.specs.Noted.{Begins, EndsFull, IsNoted};
@@ -26,9 +30,10 @@ ghost use Rattle.core_model.specs.Ranges.{IsWord, CountsFit, NamesRows};
 ghost use Rattle.core_model.specs.Start.{PassesAllowance, IsCommand, LacksRows, begun, start, opening};
 ghost use Rattle.core_model.specs.Batches.{owner_of};
 ghost use Rattle.core_model.specs.Facts.{Describes};
+ghost use Rattle.core_model.specs.Saying.{Says};
 ghost use Rattle.core_model.specs.Shown.{Shows};
 ghost use Rattle.core_model.specs.State.{State, command, read, own_group};
-ghost use Rattle.core_model.specs.Step.{target, added_by, next};
+ghost use Rattle.core_model.specs.Step.{act, target, added_by, next};
 
 /// An empty lane is lawful, and it stays so at each step of each caller and at each start of a command.
 pub fn each_event_keeps_the_lane_lawful()
@@ -95,16 +100,32 @@ pub fn counts_stay_in_range()
     ensures announced { (shape : Shape) (s : State) (a n : ℕ) → Lawful (lane_sizes shape) s → s.memory.head ≡ Ann a n → n < 2 ^ 44 }
 {}
 
+/// Each word of the table may hold what it holds in an empty lane, and so after each step and each start of a command of no
+/// more operations than the lane takes. What a step finds may stand in its word, and so may what it expects there and what
+/// it stores: all of it can be packed.
+pub fn words_can_be_coded()
+    ensures opening { (shape : Shape) → IsCoded shape (opening (lane_sizes shape)) }
+    ensures step { (shape : Shape) (s : State) (c : ℕ) → Lawful (lane_sizes shape) s → IsCoded shape s → IsCoded shape (next (lane_sizes shape) s c) }
+    ensures start { (shape : Shape) (s : State) (c : ℕ) (ops : List Op) → Lawful (lane_sizes shape) s → IsCoded shape s → IsCommand ops → (s.callers c).point ≡ Idle → c < shape.callers
+        → ¬ (PassesAllowance (lane_sizes shape) (s.callers c) (length ops)) → length ops ≤ shape.batch → ((j : ℕ) → get_or (enqueued ops) j 0 < 2 ^ 64)
+        → IsCoded shape (start (lane_sizes shape) s c ops) }
+    ensures found { (shape : Shape) (s : State) (c : ℕ) → Lawful (lane_sizes shape) s → IsCoded shape s
+        → MayHold shape (target (s.callers c).point) (read s.memory (target (s.callers c).point)) }
+    ensures stored { (shape : Shape) (s : State) (c : ℕ) → Lawful (lane_sizes shape) s → IsCoded shape s → ActFits shape (act (s.callers c).point) }
+{}
+
 /// The words of a lawful lane show the last queue of its history, also while an announcement stands in HEAD.
 pub fn words_show_the_last_queue()
     ensures { (z : LaneSizes) (s : State) → Lawful z s → Shows s.memory (last_queue s.history) }
 {}
 
-/// An announcement that stands in HEAD says what the running command of its owner is. The step that links its chain adds
+/// An announcement that stands in HEAD says what the running command of its owner is, and where its dummy, its rows and its
+/// old tail are. The step that links its chain adds
 /// the group of that command to the history, whichever caller makes it.
 pub fn announced_batch_is_its_owners()
     ensures told { (z : LaneSizes) (s : State) (a n : ℕ) → Lawful z s → s.memory.head ≡ Ann a n
         → Describes (owner_of z a) (command (s.callers (owner_of z a))) (s.memory.notice a) }
+    ensures says { (z : LaneSizes) (s : State) (a n : ℕ) → Lawful z s → s.memory.head ≡ Ann a n → Says z s.memory a n }
     ensures added { (z : LaneSizes) (s : State) (c : ℕ) (h : Help) (p : Place) → (s.callers c).point ≡ Point.Help h (HelpPoint.LinkChain p) → s.memory.link p.row ≡ Nil
         → (next z s c).history ≡ s.history ++ own_group (owner_of z h.ann) (s.callers (owner_of z h.ann)) ∷ [] }
 {}

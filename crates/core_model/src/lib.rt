@@ -1,10 +1,14 @@
 //! One lane as a pure machine: its words, its history, its callers, and what each atomic step of a caller does.
 //!
-//! `turn` has a caller's place in its call, `kind` the kinds of step, `found` what a step finds in a word, `notice` what an
-//! announcement says, `act` what a step does with its word, `step` what the next one does, and `course` what becomes of the command; `enqueue`
-//! and `help` say this of their calls. The definitions
-//! stand in `specs/`, one notion a file: `State` and `Step` say what the machine is, `Start` how a command begins, `Batches`
-//! how a batch is counted, `Facts` and `Lawful` what is true of a lane at every moment.
+//! `point` has where a caller stands in its call, nested by call. Each call has a file, `enqueue`, `dequeue`, `batch`, `help` and
+//! `answer`, with the rows of two tables: what the step at a point does with its word (`act`), and where the caller is after
+//! it by what the step found (`step`). `kind` names the kinds of step, `found` reads what a step found, `course` has what
+//! becomes of the command, and `notice` what an announcement says. The laws in `laws` say that each event keeps the lane
+//! lawful, and what a lawful lane promises.
+//!
+//! `specs/` has one notion a file: `State` and `Step` say what the machine is, `Start` how a command begins, `Batches` how a
+//! batch is counted, a file for each call its two tables, `Facts` and `Lawful` what is true of a lane at every moment, and
+//! `Coded` what can be packed. docs/LANE.md tells how a step, a kind of step or a call is added.
 #![tactic(auto)]
 
 mod act;
@@ -32,7 +36,7 @@ pub use laws::{
     a_lane_opens_as_its_table, a_step_is_its_callers_alone, a_step_stores_into_one_word,
     announced_batch_is_its_owners, counts_stay_in_range, each_event_keeps_the_lane_lawful,
     ended_commands_stand_in_the_history, full_comes_exactly_without_a_row,
-    starts_and_ends_are_noted, words_show_the_last_queue,
+    starts_and_ends_are_noted, words_can_be_coded, words_show_the_last_queue,
 };
 pub use point::{
     AnswerPoint, Back, BatchPoint, CallEnd, DequeuePoint, Draft, EnqueuePoint, Help, HelpPoint,

@@ -6,7 +6,7 @@ use Rattle.bq_model.specs.Own.{mine}
 use Rattle.bq_model.specs.declared.op.Op.TheVariants.{Enq, Deq}
 use Rattle.std.proofs.lemmas.List.Sums.{sum_by-cons}
 use Rattle.excess_count.specs.Excess.{is_enqueue, enqueue_count}
-use Rattle.excess_count.specs.Got.{enqueued}
+use Rattle.bq_model.specs.Values.{enqueued}
 use Rattle.core_model.specs.declared.point.Point.TheVariants.{Idle}
 use Rattle.core_model.specs.declared.point.Point.TheVariants as point
 use Rattle.core_model.specs.declared.point.BatchPoint.TheVariants as batch

@@ -1,5 +1,5 @@
 -- The calls' list as a function of the caller, and the parts of a step and of a start put together.
-use Rattle.std.proofs.Common.{◌≡◌, ℕ, zero, suc, ◌+◌, ◌<◌, Bool, true, false, cond, List, [], ◌∷◌, ◌++◌, length, map, slice_index_or, slice_set, sum_by, sym, refl, ap, ◌∙◌, arith, get_or-set_same, get_or-set_other, slice_get, Some}
+use Rattle.std.proofs.Common.{◌≡◌, ℕ, zero, suc, ◌+◌, ◌<◌, Bool, true, false, cond, List, [], ◌∷◌, length, map, slice_index_or, slice_set, sum_by, sym, refl, ap, ◌∙◌, arith, get_or-set_same, get_or-set_other, slice_get, Some}
 use Rattle.std.proofs.lemmas.List.{map-set, get_or-map, length-map}
 use Rattle.std.proofs.lemmas.List.Sums.{sum_by-set}
 use Rattle.std.specs.declared.vec.Vec.{Vec}

@@ -1,6 +1,6 @@
 -- The commands of a caller, ended and running, are those that the events of a schedule start.
 use Rattle.std.proofs.Common.{◌≡◌, ◌≢◌, inl, inr, ℕ, suc, ◌+◌, ◌<◌, eqb, ltb, ◌&&◌, not, Bool, true, false, cond, List, [], ◌∷◌, ◌++◌, length, map, filter, All, Option, Some, None, Result, Ok, refl, sym, ap, ◌∙◌, subst, append_assoc, arith}
-use Rattle.std.proofs.lemmas.Bool.{eqb-true, ltb-true, eqb-false}
+use Rattle.std.proofs.lemmas.Bool.{eqb-true}
 use Rattle.std.proofs.lemmas.List.{append-nil, map-append}
 use Rattle.std.proofs.lemmas.List.Elements.{All-filter}
 use mathlib.Core.Logic.{dite}
@@ -14,8 +14,8 @@ use Rattle.core_model.specs.declared.point.Point.TheVariants.{Idle}
 use Rattle.core_model.specs.Functions.{put}
 use Rattle.core_model.specs.LaneSizes.{LaneSizes, lane_sizes}
 use Rattle.core_model.specs.Lawful.{Lawful}
-use Rattle.core_model.specs.Noted.{GoesOn, EndsDone, IsNoted}
-use Rattle.core_model.specs.Start.{has_rows, started, refused, start}
+use Rattle.core_model.specs.Noted.{EndsDone, IsNoted}
+use Rattle.core_model.specs.Start.{has_rows, started, refused}
 use Rattle.core_model.specs.State.{Caller, State, own_group}
 use Rattle.core_model.specs.Step.{next}
 use Rattle.core_model.proofs.Alone.{others_stay}

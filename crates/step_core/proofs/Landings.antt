@@ -7,20 +7,12 @@ use mathlib.Core.Logic.{dite}
 use native.Mathlib.Decide.{ℕ_discrete}
 use Rattle.bq_model.specs.declared.group.Group.{Group}
 use Rattle.bq_model.specs.Own.{mine}
-use Rattle.excess_count.specs.Excess.{is_dequeue}
-use Rattle.word_rows.specs.declared.batch_words.BatchCounts.{BatchCounts}
-use Rattle.std.proofs.lemmas.List.Sums.{count_by-le-length}
 use Rattle.core_model.specs.declared.point.Point.{Point}
 use Rattle.core_model.specs.declared.point.Point.TheVariants.{Idle}
-use Rattle.core_model.specs.declared.point.Point.TheVariants as point
-use Rattle.core_model.specs.declared.point.AnswerPoint.TheVariants as answer
 use Rattle.core_model.specs.LaneSizes.{LaneSizes}
 use Rattle.core_model.specs.State.{Caller, State, read, own_group}
 use Rattle.core_model.specs.Step.{target, linearizes, added_by, group_owner, next}
-use Rattle.core_model.specs.Facts.{AtPoint}
 use Rattle.core_model.specs.Lawful.{Lawful}
-use Rattle.core_model.proofs.Stable.{world}
-use Rattle.core_model.proofs.Runs.{length-run}
 use Rattle.core_model.proofs.Groups.{mine-push_own, mine-push_other}
 use Rattle.core_model.proofs.Preserves.{known}
 use Rattle.core_model.proofs.Steps.{preserves_next}
@@ -149,10 +141,3 @@ module _ (z : LaneSizes) (s : State) (L : Lawful z s) (c : ℕ) (runs : (s.calle
 
       pub others_mine : (e : ℕ) → e ≢ group_owner z c t → mine (next z s c).history e ≡ mine s.history e
       others_mine e apart = ap (λ (h : List Group). mine h e) (grew g) ∙ mine-push_other s.history (own_group (group_owner z c t) (s.callers (group_owner z c t))) e apart
-
--- a batch that reads a value has fewer of them than operations
-pub values_fit : (z : LaneSizes) (s : State) → Lawful z s → (c m r l : ℕ) → (s.callers c).point ≡ point.Answer (answer.LoadValue m r l) → length (s.callers c).values < length (s.callers c).ops
-values_fit z s L c m r l is = by (known z s L c (point.Answer (answer.LoadValue m r l)) is) where
-  by : AtPoint z (world s L.ghost) c (s.callers c) (point.Answer (answer.LoadValue m r l)) → length (s.callers c).values < length (s.callers c).ops
-  by f = let rd = f.here.0 in let R = rd.3 in let n = ap length rd.8 ∙ length-run (λ j. s.memory.value (L.ghost.path j)) (suc R.dummy) rd.4 in
-      let counts = ap (λ (k : BatchCounts). k.deqs) R.counts in let most = count_by-le-length is_dequeue (s.callers c).ops in let total = rd.6 in omega arith

@@ -22,6 +22,7 @@ use Rattle.core_model.specs.Ranges.{IsWord, RowsFit, CountsFit}
 use Rattle.core_model.specs.Lawful.{Lawful}
 use Rattle.core_model.proofs.Puts.{put_all}
 use Rattle.core_model.proofs.Steps.{preserves_next}
+use Rattle.core_model.proofs.ReadValues.{values_fit}
 use Rattle.core_model.proofs.InRange.{counts_fit, rows_fit, is_word, shape_fits}
 use Rattle.step_core.specs.declared.call.Call.{Call}
 use Rattle.step_core.specs.declared.lists.Lists.{Lists}
@@ -32,7 +33,7 @@ use Rattle.step_core.specs.Due.{due}
 use Rattle.step_core.specs.Lists.{callers_of, state_of, copy_at, all_due, MayLinearize, IsSound}
 use Rattle.step_core.proofs.Totals.{total, total_le, total_list}
 use Rattle.step_core.proofs.Callers.{caller_is}
-use Rattle.step_core.proofs.Landings.{due_falls, due_groups, goes_on_same, one_more, owner_known, owner_waits, another, others_mine, leaves_history, values_fit}
+use Rattle.step_core.proofs.Landings.{due_falls, due_groups, goes_on_same, one_more, owner_known, owner_waits, another, others_mine, leaves_history}
 
 -- a call of the list
 pub call_at : (ks : List Call) (c : ℕ) → c < length ks → (k : Call) × (slice_get ks c ≡ Some k) × ((d : Call) → slice_index_or ks c d ≡ k)

@@ -1,7 +1,7 @@
 -- What the machine keeps of a caller, as a caller of a lane.
 use Rattle.std.specs.Prelude.{◌≡◌, ◌≢◌, ℕ, ◌+◌, ◌^◌, ◌<◌, ◌≤◌, length, vec_len, vec_capacity}
 use Rattle.bq_model.specs.History.{operations}
-use Rattle.excess_count.specs.Got.{enqueued}
+use Rattle.bq_model.specs.Values.{enqueued}
 use Rattle.core_model.specs.declared.point.Point.TheVariants.{Idle}
 use Rattle.core_model.specs.declared.point.Point.TheVariants as point
 use Rattle.core_model.specs.declared.point.AnswerPoint.TheVariants as answer

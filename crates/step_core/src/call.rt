@@ -1,7 +1,7 @@
 // What the machine keeps of a caller. All memory that a command's steps need is there before its first step.
 ghost use Rattle.std.specs.Prelude.{◌≡◌, ◌≢◌, ℕ, ◌+◌, ◌++◌, ◌^◌, ◌<◌, ◌≤◌, IfOk, OnOk, [], ◌∷◌, length, slice_index, vec_len, vec_capacity, Some, None};
 ghost use Rattle.bq_model.specs.History.{operations};
-ghost use Rattle.excess_count.specs.Got.{enqueued};
+ghost use Rattle.bq_model.specs.Values.{enqueued};
 ghost use Rattle.core_model.specs.Batches.{paired};
 ghost use Rattle.core_model.specs.Step.{after, ended, reads_on, stepped};
 ghost use Rattle.core_model.specs.Start.{newcomer};

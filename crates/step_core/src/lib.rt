@@ -17,7 +17,7 @@ mod tests;
 mod words;
 
 pub use core_model::{Back, CallEnd, Draft, Help, Item, Notice, Point, StepKind};
-pub use laws::every_schedule_leaves_a_lawful_lane;
+pub use laws::{every_schedule_leaves_a_lawful_lane, groups_are_the_commands_that_were_started};
 pub use machine::Machine;
 pub use schedule::{Event, EventCause, ScheduleRefused, run_schedule};
 pub use starts::Started;

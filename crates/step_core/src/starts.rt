@@ -3,7 +3,7 @@ ghost use Rattle.std.specs.Prelude.{◌≡◌, ◌≢◌, ◌↔◌, ℕ, ◌+�
 ghost use Rattle.bq_model.specs.declared.op.Op.{Op};
 ghost use Rattle.excess_count.specs.Counts.{counts_of};
 ghost use Rattle.excess_count.specs.Excess.{enqueue_count};
-ghost use Rattle.excess_count.specs.Got.{enqueued};
+ghost use Rattle.bq_model.specs.Values.{enqueued};
 ghost use Rattle.word_rows.specs.Sizes.{items_of};
 ghost use Rattle.core_model.specs.declared.point.Point.TheVariants.{Idle};
 ghost use Rattle.core_model.specs.Batches.{notice_of};

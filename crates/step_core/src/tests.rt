@@ -198,6 +198,27 @@ fn first_event_that_cannot_happen_is_named(rt: HostRuntime) -> Result<(), Fail> 
     Ok(())
 }
 
+#[test]
+fn no_event_leaves_the_empty_history(rt: HostRuntime) -> Result<(), Fail> {
+    let shape = Shape::new(1, 1, 1, 10, 0).ok_or("in limits")?;
+    let machine = run_schedule(rt.alloc(), &shape, &[]).ok().ok_or("runs")?;
+    assert!(rt; machine.history().is_empty());
+    let cases = [
+        ([Play::Steps(0, 1)].as_slice(), 0, EventCause::IdleCaller),
+        (
+            [Play::Deq(0), Play::Deq(0)].as_slice(),
+            1,
+            EventCause::BusyCaller,
+        ),
+    ];
+    for (plays, event, cause) in cases {
+        let events = events_of(rt.alloc(), plays)?;
+        let outcome = run_schedule(rt.alloc(), &shape, events.as_slice());
+        assert_eq!(rt; outcome.err(), Some(ScheduleRefused::At { event, cause }));
+    }
+    Ok(())
+}
+
 /// The caller makes its next step, or starts a command with the operation.
 fn go_on(machine: &mut Machine, caller: u32, op: Op) -> Result<Option<StepKind>, OutOfMemory>
     requires { caller < machine.old.shape.callers }
@@ -263,6 +284,7 @@ fn sixth_enqueue_finds_no_row_and_eleventh_command_is_spent(rt: HostRuntime) -> 
         kinds_of(rt.alloc(), &mut machine, Op::Enq(value))?;
     }
     assert!(rt; machine.result(0) == Some(CallEnd::Done));
+    assert_eq!(rt; (machine.started_at(0), machine.ended_at(0)), (4, Some(5)));
     let kinds = kinds_of(rt.alloc(), &mut machine, Op::Enq(5))?;
     assert!(rt; kinds.is_empty());
     assert!(rt; machine.result(0) == Some(CallEnd::Full));
@@ -396,6 +418,7 @@ enum Act<'a> {
 #[derive(Clone, Copy)]
 struct Batches<'a> {
     callers: u32,
+    batch: u32,
     acts: &'a [Act<'a>],
     groups: &'a [(u32, u64, &'a [Op])],
     caller: u32,
@@ -456,7 +479,7 @@ fn drained(alloc: Global, machine: &mut Machine, caller: u32) -> Result<Vec<u64>
 }
 
 fn assert_batches(rt: &impl Abort, alloc: Global, row: &Batches) -> Result<(), Fail> {
-    let shape = Shape::new(row.callers, 5, 8, 100, 0).ok_or("in limits")?;
+    let shape = Shape::new(row.callers, row.batch, 8, 100, 0).ok_or("in limits")?;
     let mut machine = Machine::new(alloc, &shape)?;
     for next in row.acts {
         do_it(alloc, &mut machine, *next)?;
@@ -479,6 +502,7 @@ fn batches_by_hand_answer_and_leave_what_they_must(rt: HostRuntime) -> Result<()
         // Two dequeues succeed on one value, the second on a value of the batch itself.
         Batches {
             callers: 1,
+            batch: 5,
             acts: &[
                 Act::Start(0, &[Op::Enq(7)]),
                 Act::Finish(0),
@@ -502,6 +526,7 @@ fn batches_by_hand_answer_and_leave_what_they_must(rt: HostRuntime) -> Result<()
         // The same batch on an empty queue.
         Batches {
             callers: 1,
+            batch: 5,
             acts: &[
                 Act::Start(0, &[Op::Deq, Op::Enq(8), Op::Deq, Op::Deq, Op::Enq(9)]),
                 Act::Finish(0),
@@ -520,6 +545,7 @@ fn batches_by_hand_answer_and_leave_what_they_must(rt: HostRuntime) -> Result<()
         // A longer queue than the batch: the new dummy lies before the old tail.
         Batches {
             callers: 2,
+            batch: 5,
             acts: &[
                 Act::Start(
                     0,
@@ -544,6 +570,7 @@ fn batches_by_hand_answer_and_leave_what_they_must(rt: HostRuntime) -> Result<()
         // A caller has as many announcements as there are callers. A second batch of a lone caller ends with Full.
         Batches {
             callers: 1,
+            batch: 5,
             acts: &[
                 Act::Start(0, &[Op::Enq(1), Op::Enq(2)]),
                 Act::Finish(0),
@@ -558,6 +585,7 @@ fn batches_by_hand_answer_and_leave_what_they_must(rt: HostRuntime) -> Result<()
         // No dequeue: the head gets its old word back.
         Batches {
             callers: 1,
+            batch: 5,
             acts: &[Act::Start(0, &[Op::Enq(1), Op::Enq(2)]), Act::Finish(0)],
             groups: &[(0, 0, &[Op::Enq(1), Op::Enq(2)])],
             caller: 0,
@@ -567,6 +595,7 @@ fn batches_by_hand_answer_and_leave_what_they_must(rt: HostRuntime) -> Result<()
         // A dequeue finishes the batch of a caller that stopped before its link.
         Batches {
             callers: 2,
+            batch: 4,
             acts: &[
                 Act::Start(0, &[Op::Enq(5), Op::Enq(6), Op::Deq]),
                 Act::Until(0, StepKind::LinkChain),
@@ -584,6 +613,7 @@ fn batches_by_hand_answer_and_leave_what_they_must(rt: HostRuntime) -> Result<()
         // The helper's own exchange comes late and changes nothing.
         Batches {
             callers: 3,
+            batch: 4,
             acts: &[
                 Act::Start(0, &[Op::Enq(5), Op::Enq(6), Op::Deq]),
                 Act::Until(0, StepKind::LinkChain),
@@ -609,6 +639,7 @@ fn batches_by_hand_answer_and_leave_what_they_must(rt: HostRuntime) -> Result<()
         // The owner stops right after its install, and another caller's enqueue does the rest. The owner finds its answers.
         Batches {
             callers: 2,
+            batch: 5,
             acts: &[
                 Act::Start(0, &[Op::Enq(5), Op::Enq(6), Op::Deq]),
                 Act::Until(0, StepKind::Install),
@@ -630,6 +661,173 @@ fn batches_by_hand_answer_and_leave_what_they_must(rt: HostRuntime) -> Result<()
         assert_batches(&rt, rt.alloc(), row)?;
     }
     Ok(())
+}
+
+/// The kinds of the steps that the caller makes to the end of its command.
+fn kinds_to_the_end(
+    alloc: Global,
+    machine: &mut Machine,
+    caller: u32,
+) -> Result<Vec<StepKind>, OutOfMemory> {
+    let mut kinds = Vec::new(alloc);
+    for _ in 0..60 {
+        if caller < machine.callers() {
+            if let Some(_) = machine.next_kind(caller) {
+                kinds.push(machine.step(caller))?;
+            }
+        }
+    }
+    Ok(kinds)
+}
+
+/// What goes before, and the steps of caller 1 from there to the end of its command.
+#[derive(Clone, Copy)]
+struct Steps<'a> {
+    acts: &'a [Act<'a>],
+    kinds: &'a [StepKind],
+}
+
+#[test]
+fn steps_of_batches_and_helps_come_in_their_order(rt: HostRuntime) -> Result<(), Fail> {
+    let batch = [Op::Enq(5), Op::Enq(6), Op::Deq].as_slice();
+    let rows = [
+        // A whole batch.
+        Steps {
+            acts: &[Act::Start(1, batch)],
+            kinds: &[
+                StepKind::StoreValue,
+                StepKind::StoreValue,
+                StepKind::StoreChain,
+                StepKind::StoreAnn,
+                StepKind::StoreAnn,
+                StepKind::StoreAnn,
+                StepKind::StoreAnn,
+                StepKind::StoreAnn,
+                StepKind::StoreAnn,
+                StepKind::StoreAnn,
+                StepKind::StoreAnn,
+                StepKind::StoreAnn,
+                StepKind::LoadHead,
+                StepKind::StoreAnn,
+                StepKind::Install,
+                StepKind::LoadAnn,
+                StepKind::LoadAnn,
+                StepKind::LoadAnn,
+                StepKind::LoadAnn,
+                StepKind::LoadTail,
+                StepKind::LoadAnn,
+                StepKind::LoadLink,
+                StepKind::LinkChain,
+                StepKind::LoadTail,
+                StepKind::LoadAnn,
+                StepKind::LoadLink,
+                StepKind::RecordTail,
+                StepKind::LoadTail,
+                StepKind::MoveTailOver,
+                StepKind::LoadLink,
+                StepKind::MoveHeadAnn,
+                StepKind::LoadAnn,
+                StepKind::LoadLink,
+                StepKind::LoadValue,
+            ],
+        },
+        // An enqueue meets the chain of a batch whose owner stopped right behind its link, and finishes it.
+        Steps {
+            acts: &[
+                Act::Start(0, batch),
+                Act::Until(0, StepKind::LinkChain),
+                Act::Until(0, StepKind::LoadTail),
+                Act::Start(1, &[Op::Enq(9)]),
+            ],
+            kinds: &[
+                StepKind::StoreValue,
+                StepKind::LoadTail,
+                StepKind::LoadLink,
+                StepKind::LoadHead,
+                StepKind::LoadAnn,
+                StepKind::LoadAnn,
+                StepKind::LoadAnn,
+                StepKind::LoadAnn,
+                StepKind::LoadTail,
+                StepKind::LoadAnn,
+                StepKind::LoadLink,
+                StepKind::RecordTail,
+                StepKind::LoadTail,
+                StepKind::MoveTailOver,
+                StepKind::LoadLink,
+                StepKind::MoveHeadAnn,
+                StepKind::LoadTail,
+                StepKind::LoadLink,
+                StepKind::LinkSingle,
+                StepKind::MoveTail,
+            ],
+        },
+        // A dequeue helps where the tail lags: it moves the tail over the row before it links the chain.
+        Steps {
+            acts: &[
+                Act::Start(2, &[Op::Enq(7)]),
+                Act::Until(2, StepKind::MoveTail),
+                Act::Start(0, batch),
+                Act::Until(0, StepKind::Install),
+                Act::Until(0, StepKind::LoadAnn),
+                Act::Start(1, &[Op::Deq]),
+            ],
+            kinds: &[
+                StepKind::LoadHead,
+                StepKind::LoadAnn,
+                StepKind::LoadAnn,
+                StepKind::LoadAnn,
+                StepKind::LoadAnn,
+                StepKind::LoadTail,
+                StepKind::LoadAnn,
+                StepKind::LoadLink,
+                StepKind::MoveTail,
+                StepKind::LoadTail,
+                StepKind::LoadAnn,
+                StepKind::LoadLink,
+                StepKind::LinkChain,
+                StepKind::LoadTail,
+                StepKind::LoadAnn,
+                StepKind::LoadLink,
+                StepKind::RecordTail,
+                StepKind::LoadTail,
+                StepKind::MoveTailOver,
+                StepKind::MoveHeadAnn,
+                StepKind::LoadHead,
+                StepKind::LoadLink,
+                StepKind::LoadTail,
+                StepKind::LoadValue,
+                StepKind::MoveHead,
+            ],
+        },
+    ];
+    let shape = Shape::new(3, 4, 8, 100, 0).ok_or("in limits")?;
+    for row in &rows {
+        let mut machine = Machine::new(rt.alloc(), &shape)?;
+        for next in row.acts {
+            do_it(rt.alloc(), &mut machine, *next)?;
+        }
+        let kinds = kinds_to_the_end(rt.alloc(), &mut machine, 1)?;
+        assert_eq!(rt; kinds.as_slice(), row.kinds);
+    }
+    Ok(())
+}
+
+#[test]
+fn laws_of_the_lane_are_there() {
+    core_model::each_event_keeps_the_lane_lawful();
+    core_model::a_step_is_its_callers_alone();
+    core_model::starts_and_ends_are_noted();
+    core_model::a_step_stores_into_one_word();
+    core_model::a_lane_opens_as_its_table();
+    core_model::ended_commands_stand_in_the_history();
+    core_model::full_comes_exactly_without_a_row();
+    core_model::counts_stay_in_range();
+    core_model::words_can_be_coded();
+    core_model::words_show_the_last_queue();
+    core_model::announced_batch_is_its_owners();
+    crate::every_schedule_leaves_a_lawful_lane();
+    crate::groups_are_the_commands_that_were_started();
 }
 
 #[test]

@@ -1,5 +1,5 @@
 use Rattle.std.proofs.Common.{◌≡◌, take}
-use Rattle.excess_count.specs.Got.{enqueued}
+use Rattle.bq_model.specs.Values.{enqueued}
 use Rattle.step_core.proofs.starts.puts_of.Given as goal
 
 abbrev pub invariant-loop-op : goal.invariant-loop-op

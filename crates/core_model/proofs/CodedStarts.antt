@@ -1,0 +1,155 @@
+-- The numbers of an empty lane can be coded, and those of a lane after the start of a command.
+use Rattle.std.proofs.Common.{◌≡◌, ◌≢◌, ℕ, suc, ◌+◌, ◌-◌, ◌*◌, ◌^◌, ◌<◌, ◌≤◌, Bool, true, false, cond, List, [], ◌∷◌, length, take, drop, get_or, sym, refl, ap, ◌∙◌, subst, arith, All}
+use Rattle.std.proofs.lemmas.List.{length-append, length-take}
+use Rattle.std.proofs.lemmas.List.Elements.{All-filter}
+use Rattle.std.proofs.Math.Pow.{pow_mono}
+use Rattle.bq_model.specs.declared.group.Group.{Group}
+use Rattle.bq_model.specs.declared.op.Op.{Op}
+use Rattle.bq_model.specs.declared.op.Op.TheVariants.{Enq, Deq}
+use Rattle.bq_model.specs.declared.shape.Shape.{Shape}
+use Rattle.bq_model.specs.History.{operations}
+use Rattle.excess_count.specs.Excess.{enqueue_count, dequeue_count, excess_of}
+use Rattle.bq_model.specs.Values.{enqueued}
+use Rattle.excess_count.proofs.ExcessLaws.{excess_of-le, count-ops}
+use Rattle.word_rows.specs.declared.location.AnnField.{AnnField}
+use Rattle.word_rows.specs.declared.location.AnnField.TheVariants.{OldHead, OldTail, First, Last, Counts, BatchNo, Order0, Order1, Order2, Order3}
+use Rattle.word_rows.specs.declared.location.Location.{Location}
+use Rattle.word_rows.specs.declared.location.Location.TheVariants.{Head, Tail, Link, Value, Mark, NodeHazard, AnnHazard, AnnWord}
+use Rattle.word_rows.specs.Contents.{MayHold}
+use Rattle.word_rows.specs.Order.{order_word_of}
+use Rattle.word_rows.specs.Opening.{opening_of, opening_field}
+use Rattle.word_rows.specs.Sizes.{rows_of}
+use Rattle.word_rows.proofs.OrderLemmas.{enqueue_bits-lt}
+use Rattle.word_rows.proofs.SizeLemmas.{rows_within}
+use Rattle.core_model.specs.declared.point.Point.TheVariants as point
+use Rattle.core_model.specs.declared.point.EnqueuePoint.TheVariants as enq
+use Rattle.core_model.specs.declared.point.BatchPoint.TheVariants as batch
+use Rattle.core_model.specs.Functions.{put}
+use Rattle.core_model.specs.LaneSizes.{LaneSizes, lane_sizes, item}
+use Rattle.core_model.specs.State.{Caller, State}
+use Rattle.core_model.specs.Start.{PassesAllowance, IsCommand, has_rows, draft_of, first_point, started, refused, start, opening}
+use Rattle.core_model.specs.Fits.{DraftFits}
+use Rattle.core_model.specs.Coded.{PointFits, IsCoded}
+use Rattle.core_model.specs.Lawful.{Lawful}
+use Rattle.core_model.proofs.Puts.{put_here, put_all}
+use Rattle.core_model.proofs.Preserves.{known}
+use Rattle.core_model.proofs.Steps.{no_operation, started_lawful}
+use Rattle.core_model.proofs.Ends.{idle_groups}
+use Rattle.core_model.proofs.Tables.{opens_as_its_table}
+
+field_opens : (s : Shape) (a : ℕ) (f : AnnField) → MayHold s (AnnWord a f) (opening_field f)
+field_opens s a OldHead = (tt, ((omega arith), (omega arith)))
+field_opens s a OldTail = (tt, tt)
+field_opens s a First = (tt, (omega arith))
+field_opens s a Last = (tt, (omega arith))
+field_opens s a Counts = (tt, ((omega arith), (omega arith), (omega arith)))
+field_opens s a BatchNo = let callers = s.some_callers.0 in let allowance = s.some_allowance.0 in (tt, ((omega arith), (omega arith)))
+field_opens s a Order0 = (tt, (omega arith))
+field_opens s a Order1 = (tt, (omega arith))
+field_opens s a Order2 = (tt, (omega arith))
+field_opens s a Order3 = (tt, (omega arith))
+
+word_opens : (s : Shape) (l : Location) → MayHold s l (opening_of s l)
+word_opens s Head = let fits = s.counts_fit in (tt, ((omega arith), (omega arith)))
+word_opens s Tail = let fits = s.counts_fit in (tt, ((omega arith), (omega arith)))
+word_opens s (Link r) = (tt, tt)
+word_opens s (Value r) = (tt, (omega arith))
+word_opens s (Mark r) = (tt, tt)
+word_opens s (NodeHazard c) = (tt, tt)
+word_opens s (AnnHazard c) = (tt, tt)
+word_opens s (AnnWord a f) = field_opens s a f
+
+pub opening_coded : (s : Shape) → IsCoded s (opening (lane_sizes s))
+opening_coded s = record { words = λ l _. subst (MayHold s l) (sym (opens_as_its_table s l)) (word_opens s l); points = λ c. tt; puts = λ c j. omega arith }
+
+-- groups with operations are no more than their operations
+le_operations : (gs : List Group) → All (λ g. g.ops ≢ []) gs → length gs ≤ length (operations gs)
+le_operations [] a = omega arith
+le_operations (g ∷ gs) a = let rest = le_operations gs (λ k d below. a (suc k) d (omega arith)) in let all = length-append g.ops (operations gs) in let one = some g.ops (a 0 g (omega arith)) in omega arith where
+  some : (ops : List Op) → ops ≢ [] → 0 < length ops
+  some [] none = absurd (none refl)
+  some (op ∷ ops) none = omega arith
+
+-- an order word is a word
+order_fits : (ops : List Op) (w : ℕ) → order_word_of ops w < 2 ^ 64
+order_fits ops w = let xs : List Op = take 64 (drop (64 * w) ops) in let below = enqueue_bits-lt (take 64 (drop (64 * w) ops)) in let n = length-take 64 (drop (64 * w) ops) in
+    let most : 2 ^ length (take 64 (drop (64 * w) ops)) ≤ 2 ^ 64 = pow_mono {i = length (take 64 (drop (64 * w) ops))} {j = 64} (short ops) in omega arith where
+      short : (ys : List Op) → length (take 64 (drop (64 * w) ys)) ≤ 64
+      short ys = let m = length-take 64 (drop (64 * w) ys) in omega arith
+
+module _ (key : Shape) (s : State) (L : Lawful (lane_sizes key) s) (R : IsCoded key s) (c : ℕ) (idle : (s.callers c).point ≡ point.Idle) (at : c < key.callers) where
+  abbrev z : LaneSizes
+  z = lane_sizes key
+
+  -- the caller's next batch number is below its allowance
+  batch_fits : (n : ℕ) → 0 < n → ¬ (PassesAllowance z (s.callers c) n) → length (s.callers c).mine < key.allowance
+  batch_fits n some left = let filled : All (λ (g : Group). g.ops ≢ []) (s.callers c).mine = subst (All (λ (g : Group). g.ops ≢ [])) (idle_groups z s L c idle) (All-filter (λ g. _) (λ (g : Group). g.ops ≢ []) s.history L.history.filled) in
+      by (le_operations (s.callers c).mine filled) left where
+        by : length (s.callers c).mine ≤ length (operations (s.callers c).mine) → ¬ (PassesAllowance z (s.callers c) n) → length (s.callers c).mine < key.allowance
+        by few left = omega arith
+
+  module _ (ops : List Op) (is : IsCommand ops) (left : ¬ (PassesAllowance z (s.callers c) (length ops))) (short : length ops ≤ key.batch) (values : (j : ℕ) → get_or (enqueued ops) j 0 < 2 ^ 64) where
+    module _ (rows : has_rows z (s.callers c) ops ≡ true) where
+      abbrev k' : Caller
+      k' = started z (length s.history) c (s.callers c) ops
+
+      abbrev s' : State
+      s' = record { memory = s.memory; history = s.history; callers = put s.callers c (started z (length s.history) c (s.callers c) ops) }
+
+      begun_lawful : Lawful z s'
+      begun_lawful = started_lawful z s L c idle (no_operation z s L c idle) at ops is rows left
+
+      here : (put s.callers c k') c ≡ k'
+      here = put_here s.callers c k'
+
+      counts_fit : (enqueue_count ops < 2 ^ 16) × (dequeue_count ops < 2 ^ 16) × (excess_of ops < 2 ^ 16)
+      counts_fit = let all = count-ops ops in let x = excess_of-le ops in let most : key.batch ≤ 256 = key.some_batch.1 in let few = short in (omega arith, omega arith, omega arith)
+
+      draft_fits : (v : ℕ) → (first_point z c (s.callers c) ops ≡ point.Batch (draft_of z c (s.callers c) ops) (batch.StoreValue 0 (item z c (s.callers c).taken) v)) → DraftFits key (draft_of z c (s.callers c) ops)
+      draft_fits v first = let f = known z s' begun_lawful c (point.Batch (draft_of z c (s.callers c) ops) (batch.StoreValue 0 (item z c (s.callers c).taken) v)) (ap (λ (k : Caller). k.point) here ∙ first) in
+          let d = f.call.1.0 in let some = d.some in let last = d.last in let free = f.here.0.free in
+          let from : item z c (s.callers c).taken + 0 < rows_of key = (free 0 some).inside in
+          let end : item z c (s.callers c).taken + (enqueue_count ops - 1) < rows_of key = (free (enqueue_count ops - 1) (omega arith)).inside in
+          let row = rows_within key in (
+            d.inside,
+            record {
+              old_head = ((omega arith), (omega arith));
+              first = omega arith;
+              last = omega arith;
+              counts = counts_fit;
+              number = ((batch_fits (length ops) is.0 left), at);
+              order0 = order_fits ops 0;
+              order1 = order_fits ops 1;
+              order2 = order_fits ops 2;
+              order3 = order_fits ops 3;
+            },
+          )
+
+      point_fits : (xs : List Op) → xs ≡ ops → PointFits key (first_point z c (s.callers c) xs)
+      point_fits [] e = tt
+      point_fits (Enq v ∷ []) e = let f = known z s' begun_lawful c (point.Enqueue (record { row = item z c (s.callers c).taken; value = v }) enq.StoreValue) (ap (λ (k : Caller). k.point) here ∙ ap (first_point z c (s.callers c)) (sym e)) in
+          (record { row = f.call.1.1.0.0.inside; value = subst (λ (ys : List Op). get_or (enqueued ys) 0 0 < 2 ^ 64) (sym e) (values 0) }, tt)
+      point_fits (Deq ∷ []) e = tt
+      point_fits (op ∷ op' ∷ xs) e = (
+        subst (λ (ys : List Op). DraftFits key (draft_of z c (s.callers c) ys)) (sym e)
+            (draft_fits (get_or (enqueued (op ∷ op' ∷ xs)) 0 0) (ap (first_point z c (s.callers c)) (sym e)
+            ∙ ap (λ (ys : List Op). point.Batch (draft_of z c (s.callers c) ys) (batch.StoreValue 0 (item z c (s.callers c).taken) (get_or (enqueued (op ∷ op' ∷ xs)) 0 0))) e)),
+        subst (λ (ys : List Op). get_or (enqueued ys) 0 0 < 2 ^ 64) (sym e) (values 0),
+      )
+
+      begun_coded : IsCoded key record { memory = s.memory; history = s.history; callers = put s.callers c (started z (length s.history) c (s.callers c) ops) }
+      begun_coded = record {
+        words = R.words;
+        points = put_all s.callers c k' (λ d k. PointFits key k.point) (point_fits ops refl) (λ d _. R.points d);
+        puts = put_all s.callers c k' (λ d k. (j : ℕ) → get_or (enqueued k.ops) j 0 < 2 ^ 64) values (λ d _. R.puts d);
+      }
+
+    pub start_coded : IsCoded key (start (lane_sizes key) s c ops)
+    start_coded = by (has_rows z (s.callers c) ops) refl where
+      by : (b : Bool) → has_rows z (s.callers c) ops ≡ b → IsCoded key record { memory = s.memory; history = s.history; callers = put s.callers c (cond b (started z (length s.history) c (s.callers c) ops) (refused z (length s.history) c (s.callers c))) }
+      by true rows = begun_coded rows
+      by false rows = record {
+        words = R.words;
+        points = put_all s.callers c (refused z (length s.history) c (s.callers c)) (λ d k. PointFits key k.point) (R.points c) (λ d _. R.points d);
+        puts = put_all s.callers c (refused z (length s.history) c (s.callers c)) (λ d k. (j : ℕ) → get_or (enqueued k.ops) j 0 < 2 ^ 64) (R.puts c) (λ d _. R.puts d);
+      }

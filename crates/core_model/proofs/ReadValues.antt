@@ -1,0 +1,78 @@
+-- Where a batch reads a value, and that there is room for it among its answers.
+use Rattle.std.proofs.Common.{◌≡◌, ℕ, suc, ◌<◌, Bool, true, false, cond, length, ap, ◌∙◌, sym, arith, Option, Some, None}
+use Rattle.std.proofs.lemmas.List.Sums.{count_by-le-length}
+use Rattle.excess_count.specs.Excess.{is_dequeue}
+use Rattle.word_rows.specs.declared.batch_words.BatchCounts.{BatchCounts}
+use Rattle.word_rows.specs.declared.link_word.LinkWord.{LinkWord}
+use Rattle.word_rows.specs.declared.link_word.LinkWord.TheVariants.{Nil, Single, Chain, Shut}
+use Rattle.word_rows.specs.declared.place.Place.{Place}
+use Rattle.word_rows.specs.declared.content.Content.{Content}
+use Rattle.core_model.specs.declared.course.Course.{Course}
+use Rattle.core_model.specs.declared.course.Course.TheVariants.{GoesOn, Fills, ReadsMore}
+use Rattle.core_model.specs.declared.point.Help.{Help}
+use Rattle.core_model.specs.declared.point.Point.{Point}
+use Rattle.core_model.specs.declared.point.Point.TheVariants as point
+use Rattle.core_model.specs.declared.point.EnqueuePoint.TheVariants as enq
+use Rattle.core_model.specs.declared.point.DequeuePoint.TheVariants as deq
+use Rattle.core_model.specs.declared.point.BatchPoint.TheVariants as batch
+use Rattle.core_model.specs.declared.point.HelpPoint.TheVariants as help
+use Rattle.core_model.specs.declared.point.AnswerPoint.TheVariants as answer
+use Rattle.core_model.specs.LaneSizes.{LaneSizes}
+use Rattle.core_model.specs.State.{State, head_in, link_in, old_tail_in}
+use Rattle.core_model.specs.Act.{is_node}
+use Rattle.core_model.specs.Dequeue as dequeue
+use Rattle.core_model.specs.Answer as answering
+use Rattle.core_model.specs.Step.{course}
+use Rattle.core_model.specs.Facts.{AtPoint}
+use Rattle.core_model.specs.Lawful.{Lawful}
+use Rattle.core_model.proofs.Runs.{length-run}
+use Rattle.core_model.proofs.Stable.{world}
+use Rattle.core_model.proofs.Preserves.{known}
+
+-- a batch that reads a value has fewer of them than operations
+pub values_fit : (z : LaneSizes) (s : State) → Lawful z s → (c m r l : ℕ) → (s.callers c).point ≡ point.Answer (answer.LoadValue m r l) → length (s.callers c).values < length (s.callers c).ops
+values_fit z s L c m r l is = by (known z s L c (point.Answer (answer.LoadValue m r l)) is) where
+  by : AtPoint z (world s L.ghost) c (s.callers c) (point.Answer (answer.LoadValue m r l)) → length (s.callers c).values < length (s.callers c).ops
+  by f = let rd = f.here.0 in let R = rd.linearized in let n = ap length rd.values ∙ length-run (λ j. s.memory.value (L.ghost.path j)) (suc R.dummy) rd.read in
+      let counts = ap (λ (k : BatchCounts). k.deqs) R.counts in let most = count_by-le-length is_dequeue (s.callers c).ops in let total = rd.left in omega arith
+
+-- one value more is read at this point alone
+module _ (m r l v : ℕ) where
+  Here : Course → Type 0
+  Here y = ReadsMore m r l v ≡ y
+
+  never_on : (t : Point) → Here (GoesOn t) → ⊥
+  unfolding Here
+  never_on t e = cc e
+
+  never_either : (b : Bool) (x y : Course) → (Here x → ⊥) → (Here y → ⊥) → Here (cond b x y) → ⊥
+  never_either true x y a b = a
+  never_either false x y a b = b
+
+  never_linked : (p : Place) (x : LinkWord) → Here (dequeue.after_link p x) → ⊥
+  unfolding Here
+  never_linked p Nil e = cc e
+  never_linked p (Single n) e = cc e
+  never_linked p (Chain n) e = cc e
+  never_linked p Shut e = cc e
+
+  never_old_tail : (h : Help) (x : Option Place) → Here (answering.after_old_tail h x) → ⊥
+  unfolding Here
+  never_old_tail h None e = cc e
+  never_old_tail h (Some q) e = cc e
+
+  never_ends : (b : Bool) (x : Course) (t : Point) → (Here x → ⊥) → Here (cond b x (GoesOn t)) → ⊥
+  never_ends b x t ends = never_either b x (GoesOn t) ends (never_on t)
+
+  pub reads_a_value : (t : Point) (x : Content) → ReadsMore m r l v ≡ course t x → t ≡ point.Answer (answer.LoadValue m r l)
+  unfolding Here
+  reads_a_value (point.Enqueue i (enq.MoveTail p n)) x e = absurd (cc e)
+  reads_a_value (point.Dequeue (deq.LoadLink p)) x e = absurd (never_linked p (link_in x) e)
+  reads_a_value (point.Dequeue (deq.MoveHead p n y)) x e = absurd (never_ends (is_node (head_in x) p) _ _ (λ e. cc e) e)
+  reads_a_value (point.Batch d (batch.StoreValue i q y)) x e = absurd (never_either _ (GoesOn _) (Fills d (suc i) (suc q)) (λ e. cc e) (λ e. cc e) e)
+  reads_a_value (point.Help h help.LoadOldHead) x e = absurd (never_on _ e)
+  reads_a_value (point.Answer (answer.LoadOldTail h)) x e = absurd (never_old_tail h (old_tail_in x) e)
+  reads_a_value (point.Answer (answer.LoadValue i q n)) x e = λ k. point.Answer (answer.LoadValue (sym sames.0 k) (sym sames.1 k) (sym sames.2 k)) where
+    sames : (m ≡ i) × (r ≡ q) × (l ≡ n)
+    sames = ((cc e), (cc e), cc e)
+  reads_a_value _ x e = absurd (never_on _ e)
