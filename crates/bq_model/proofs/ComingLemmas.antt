@@ -3,7 +3,7 @@ use Rattle.std.proofs.Common.{◌≡◌, ℕ, zero, suc, ◌+◌, ◌≤◌, Lis
 use Rattle.bq_model.specs.declared.op.Op.{Op}
 use Rattle.bq_model.specs.declared.op.Op.TheVariants.{Enq}
 use Rattle.bq_model.specs.declared.op.Answer.TheVariants.{Done}
-use Rattle.bq_model.specs.Coming.{enqueued}
+use Rattle.bq_model.specs.Values.{enqueued}
 use Rattle.bq_model.specs.Replay.{answers_from}
 
 -- behind the first k values stands v, and behind it these

@@ -1,7 +1,7 @@
 // The judge of answers. It builds no queue: what is queued are the next values that the operations enqueue, behind
 // those that were taken.
 ghost use Rattle.std.specs.Prelude.{◌≡◌, ◌↔◌, ◌+◌, ◌<◌, ◌≤◌, ◌^◌, [], ◌∷◌, length, IsTrue, MatchOption};
-ghost use Rattle.bq_model.specs.Coming.{enqueued};
+ghost use Rattle.bq_model.specs.Values.{enqueued};
 ghost use Rattle.bq_model.specs.History.{operations, answers_of};
 ghost use Rattle.bq_model.specs.Replay.{answers_from};
 ghost use Rattle.bq_model.specs.Queue.{queue_after};
@@ -73,7 +73,8 @@ struct Replay<'h> {
 
 impl<'h> Model for Replay<'h> {
     ghost use Rattle.std.specs.Prelude.{◌≡◌, ◌≤◌, take, drop, length};
-    ghost use Rattle.bq_model.specs.Coming.{enqueued, Replaying};
+    ghost use Rattle.bq_model.specs.Coming.{Replaying};
+    ghost use Rattle.bq_model.specs.Values.{enqueued};
 
     ghost Value = { Replaying };
 

@@ -1,5 +1,5 @@
 use Rattle.std.proofs.Common.{◌≡◌, length}
-use Rattle.bq_model.specs.Coming.{enqueued}
+use Rattle.bq_model.specs.Values.{enqueued}
 use Rattle.bq_model.proofs.judge.Coming.next_value.Given as goal
 
 -- what was passed over enqueued nothing
