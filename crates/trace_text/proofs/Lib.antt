@@ -1,0 +1,6 @@
+-- Lemmas on the definitions of specs/, in files named for their topics.
+pub mod EachLemmas
+pub mod HistoryLemmas
+pub mod GrammarLemmas
+pub mod JudgingLemmas
+pub mod LegalLemmas

@@ -1,0 +1,8 @@
+-- The text of a history, and what is found of it.
+pub mod Each
+pub mod Claims
+pub mod HistoryText
+pub mod Verdicts
+pub mod Legal
+pub mod Judging
+pub mod Refusals
