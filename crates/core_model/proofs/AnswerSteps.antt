@@ -1,14 +1,10 @@
 -- Each step of the owner of a finished batch keeps the lane lawful.
-use Rattle.std.proofs.Common.{◌≡◌, ℕ, zero, suc, ◌+◌, ◌-◌, Bool, true, false, List, [], ◌∷◌, ◌++◌, length, take, sym, refl, ap, ◌∙◌, subst, arith, append_assoc, length-append, Option, Some, None, ◌<◌}
-use Rattle.bq_model.specs.declared.op.Op.{Op}
-use Rattle.bq_model.specs.declared.op.Op.TheVariants.{Enq, Deq}
-use Rattle.bq_model.specs.declared.op.Answer.{Answer}
-use Rattle.bq_model.specs.declared.op.Answer.TheVariants.{Done, Got, Empty}
+use Rattle.std.proofs.Common.{◌≡◌, ℕ, zero, suc, ◌+◌, ◌-◌, Bool, true, false, List, [], ◌∷◌, ◌++◌, length, take, sym, refl, ap, ◌∙◌, subst, arith, Option, Some, None, ◌<◌}
 use Rattle.bq_model.specs.declared.group.Group.{Group}
 use Rattle.bq_model.specs.Replay.{answers_from}
 use Rattle.bq_model.specs.History.{last_queue}
-use Rattle.excess_count.specs.Got.{got_count, enqueued, values_from}
-use Rattle.excess_count.proofs.ReplayLaws.{got_count-done, got_count-got, got_count-empty, got_count-counted}
+use Rattle.excess_count.specs.Got.{got_count, values_from}
+use Rattle.excess_count.proofs.ReplayLaws.{got_count-counted}
 use Rattle.word_rows.specs.declared.place.Place.{Place}
 use Rattle.word_rows.specs.declared.batch_words.BatchCounts.{BatchCounts}
 use Rattle.word_rows.specs.declared.link_word.LinkWord.{LinkWord}
@@ -18,7 +14,9 @@ use Rattle.word_rows.specs.declared.content.Content.TheVariants.{OfLink, OfValue
 use Rattle.core_model.specs.declared.point.Help.{Help}
 use Rattle.core_model.specs.Functions.{run}
 use Rattle.core_model.specs.LaneSizes.{LaneSizes}
-use Rattle.core_model.specs.Batches.{tally, gets, paired}
+use Rattle.core_model.specs.Batches.{tally, gets}
+use Rattle.excess_count.specs.Pairing.{paired}
+use Rattle.excess_count.proofs.PairingLaws.{paired_right}
 use Rattle.core_model.specs.State.{Memory, Caller, State, write, own_group}
 use Rattle.core_model.specs.Fact.{linearized_is, has_read, is_reading}
 use Rattle.core_model.specs.Help.{before_it}
@@ -41,17 +39,6 @@ use Rattle.word_rows.specs.declared.location.AnnField.TheVariants as field
 use Rattle.core_model.specs.declared.point.Point.TheVariants as point
 use Rattle.core_model.specs.declared.point.AnswerPoint.TheVariants as answer
 use Rattle.core_model.specs.Answer as answering
-
--- the answers by counting are the replay's, where the values are those that the replay gets
-pub paired_right : (ops : List Op) (q vs : List ℕ) → vs ≡ take (got_count (answers_from q ops)) (values_from q ops) → paired ops (length q) vs ≡ answers_from q ops
-paired_right [] q vs e = refl
-paired_right (Enq v ∷ ops) q vs e = let long : suc (length q) ≡ length (q ++ v ∷ []) = (let l : suc (length q) ≡ length q + 1 = omega arith in l) ∙ sym (length-append q (v ∷ [])) in
-    ap (λ (xs : List Answer). Done ∷ xs) (ap (λ (n : ℕ). paired ops n vs) long
-    ∙ paired_right ops (q ++ v ∷ []) vs (e ∙ (λ i. take (got_count-done (answers_from (q ++ v ∷ []) ops) i) (sym (append_assoc q (v ∷ []) (enqueued ops)) i))))
-paired_right (Deq ∷ ops) [] vs e = ap (λ (xs : List Answer). Empty ∷ xs) (paired_right ops [] vs (e ∙ ap (λ (n : ℕ). take n (enqueued ops)) (got_count-empty (answers_from [] ops))))
-paired_right (Deq ∷ ops) (v ∷ q) vs e = let rest : List ℕ = take (got_count (answers_from q ops)) (values_from q ops) in
-    ap (paired (Deq ∷ ops) (suc (length q))) (e ∙ ap (λ (n : ℕ). take n (v ∷ values_from q ops)) (got_count-got v (answers_from q ops)))
-    ∙ ap (λ (xs : List Answer). Got v ∷ xs) (paired_right ops q rest refl)
 
 module _ (z : LaneSizes) (s : State) (L : Lawful z s) (c : ℕ) where
   abbrev G : Ghost

@@ -1,9 +1,6 @@
 -- What a batch says in its announcement, and how its answers are found by counting.
-use Rattle.std.specs.Prelude.{ℕ, zero, suc, ◌+◌, ◌*◌, ◌-◌, ◌/◌, List, [], ◌∷◌, length, count_by, nat_lt}
+use Rattle.std.specs.Prelude.{ℕ, ◌+◌, ◌*◌, ◌-◌, ◌/◌, List, length, count_by, nat_lt}
 use Rattle.bq_model.specs.declared.op.Op.{Op}
-use Rattle.bq_model.specs.declared.op.Op.TheVariants.{Enq, Deq}
-use Rattle.bq_model.specs.declared.op.Answer.{Answer}
-use Rattle.bq_model.specs.declared.op.Answer.TheVariants.{Done, Got, Empty}
 use Rattle.bq_model.specs.declared.group.Group.{Group}
 use Rattle.excess_count.specs.declared.counts.Counts.{Counts}
 use Rattle.excess_count.specs.Counts.{successes_of}
@@ -46,14 +43,6 @@ notice_of c batch first ops = record {
   order2 = order_word_of ops 2;
   order3 = order_word_of ops 3;
 }
-
--- The answers, where n values are queued before the operations and these are those that their dequeues get.
-abbrev pub paired : List Op → ℕ → List ℕ → List Answer
-paired [] n vs = []
-paired (Enq v ∷ ops) n vs = Done ∷ paired ops (suc n) vs
-paired (Deq ∷ ops) zero vs = Empty ∷ paired ops zero vs
-paired (Deq ∷ ops) (suc n) [] = Got 0 ∷ paired ops n []
-paired (Deq ∷ ops) (suc n) (v ∷ vs) = Got v ∷ paired ops n vs
 
 -- how many of the groups have two operations or more
 abbrev pub many_count : List Group → ℕ

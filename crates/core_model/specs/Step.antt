@@ -22,7 +22,8 @@ use Rattle.core_model.specs.declared.point.HelpPoint.TheVariants as help
 use Rattle.core_model.specs.declared.point.CallEnd.TheVariants as outcome
 use Rattle.core_model.specs.Functions.{put}
 use Rattle.core_model.specs.LaneSizes.{LaneSizes}
-use Rattle.core_model.specs.Batches.{owner_of, paired}
+use Rattle.excess_count.specs.Pairing.{paired}
+use Rattle.core_model.specs.Batches.{owner_of}
 use Rattle.core_model.specs.State.{Caller, State, own_group, read, write, head_in, link_in}
 use Rattle.core_model.specs.Act.{is_node, is_nil, location, effect}
 use Rattle.core_model.specs.Help.{help_of, before_it}

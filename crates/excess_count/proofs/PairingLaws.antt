@@ -1,87 +1,61 @@
--- The answers of a batch from the values that it gets.
-use Rattle.std.proofs.Common.{◌≡◌, ℕ, zero, suc, ◌+◌, ◌<◌, ◌≤◌, inl, inr, cond, List, [], ◌∷◌, ◌++◌, length, take, replicate, refl, sym, ap, ◌∙◌, arith, Some, slice_get, slice_index, get_or}
-use Rattle.std.proofs.lemmas.List.{length-replicate, get_or-take, take_more}
-use Rattle.std.proofs.lemmas.List.Sums.{sum_by-take-le}
-use Rattle.std.proofs.lemmas.Option.{get_or_from_slice_get, slice_get-get_or}
+-- The answers of a batch, one after another, and that they are the replay's.
+use Rattle.std.proofs.Common.{◌≡◌, ℕ, zero, suc, ◌+◌, ◌≤◌, ◌++◌, min, List, [], ◌∷◌, length, take, drop, get_or, refl, sym, ap, ◌∙◌, arith, append_assoc, length-append}
+use Rattle.std.proofs.lemmas.List.{append-nil}
+use mathlib.Core.Logic.{dite}
+use native.Mathlib.Decide.{dec_le}
 use Rattle.bq_model.specs.declared.op.Op.{Op}
 use Rattle.bq_model.specs.declared.op.Op.TheVariants.{Enq, Deq}
 use Rattle.bq_model.specs.declared.op.Answer.{Answer}
 use Rattle.bq_model.specs.declared.op.Answer.TheVariants.{Done, Got, Empty}
-use Rattle.bq_model.specs.Queue.{queue_after}
 use Rattle.bq_model.specs.Replay.{answers_from}
-use Rattle.excess_count.specs.declared.counts.Counts.{Counts}
-use Rattle.excess_count.specs.Counts.{counts_of, successes_of}
-use Rattle.excess_count.specs.Got.{is_got, got_count, values_from}
-use Rattle.excess_count.proofs.ReplayLaws.{got_count-counted}
-use Rattle.excess_count.proofs.PlaceLaws.{answers_from-take, take-push, dequeue_finds}
+use Rattle.bq_model.specs.Values.{enqueued}
+use Rattle.excess_count.specs.Got.{got_count, values_from}
+use Rattle.excess_count.specs.Pairing.{paired}
+use Rattle.excess_count.proofs.ReplayLaws.{got_count-done, got_count-got, got_count-empty}
 
--- the first operations get no more values than all of them
-pub successes_of-take-le : (ops : List Op) (k n : ℕ) → successes_of (counts_of (take k ops)) n ≤ successes_of (counts_of ops) n
-successes_of-take-le ops k n =
-    let q : List ℕ = replicate n 0 in
-    let long : length q ≡ n = length-replicate n 0 in
-    let some = got_count-counted (counts_of (take k ops)) (take k ops) q n refl long in
-    let every = got_count-counted (counts_of ops) ops q n refl long in
-    let le = sum_by-take-le (λ (a : Answer). cond (is_got a) 1 0) (answers_from q ops) k in
-    let e = ap got_count (answers_from-take q ops k) in
-    omega (arith, some, every, le, e)
+-- a dequeue gets the next value
+pub gets_next : (ops : List Op) (n : ℕ) (vs : List ℕ) (got : ℕ) → paired (Deq ∷ ops) (suc n) (drop got vs) ≡ Got (get_or vs got 0) ∷ paired ops n (drop (suc got) vs)
+gets_next ops n [] zero = refl
+gets_next ops n [] (suc got) = refl
+gets_next ops n (v ∷ vs) zero = refl
+gets_next ops n (v ∷ vs) (suc got) = gets_next ops n vs got
 
-enqueue_answers : (q : List ℕ) (ops : List Op) (k v : ℕ) → slice_get ops k ≡ Some (Enq v) → slice_get (answers_from q ops) k ≡ Some Done
-enqueue_answers q [] k v e = cc e
-enqueue_answers q (Enq w ∷ ops) zero v e = refl
-enqueue_answers q (Deq ∷ ops) zero v e = cc e
-enqueue_answers q (op ∷ ops) (suc k) v e = enqueue_answers (queue_after q op) ops k v e
+-- two queues that are both as long as the operations, or longer
+pub enough : (ops : List Op) (n m : ℕ) (vs : List ℕ) → length ops ≤ n → length ops ≤ m → paired ops n vs ≡ paired ops m vs
+enough [] n m vs l k = refl
+enough (Enq v ∷ ops) n m vs l k = ap (λ (xs : List Answer). Done ∷ xs) (enough ops (suc n) (suc m) vs (omega arith) (omega arith))
+enough (Deq ∷ ops) zero m vs l k = absurd (omega arith)
+enough (Deq ∷ ops) (suc n) zero vs l k = absurd (omega arith)
+enough (Deq ∷ ops) (suc n) (suc m) [] l k = ap (λ (xs : List Answer). Got 0 ∷ xs) (enough ops n m [] (omega arith) (omega arith))
+enough (Deq ∷ ops) (suc n) (suc m) (v ∷ vs) l k = ap (λ (xs : List Answer). Got v ∷ xs) (enough ops n m vs (omega arith) (omega arith))
 
--- what an answer is, by the numbers of values got before the operation and with it
-pub record IsPaired (op : Op) (before got : ℕ) (values : List ℕ) (answer : Answer) : Type 0 where
-  pub done : (v : ℕ) → op ≡ Enq v → answer ≡ Done
-  pub next_value : op ≡ Deq → before < got → answer ≡ Got (slice_index values before)
-  pub empty : op ≡ Deq → got ≤ before → answer ≡ Empty
+pub enough_min : (ops : List Op) (n : ℕ) (vs : List ℕ) → paired ops (min n (length ops)) vs ≡ paired ops n vs
+enough_min ops n vs = dite (dec_le n (length ops)) (λ le. ap (λ (m : ℕ). paired ops m vs) (let e : min n (length ops) ≡ n = omega arith in e)) (λ more. enough ops (min n (length ops)) n vs (omega arith) (omega arith))
 
-paired_answer : (q : List ℕ) (ops : List Op) (k : ℕ) (op : Op) (before got : ℕ) (values : List ℕ) (answer : Answer) → slice_get ops k ≡ Some op
-    → got_count (take k (answers_from q ops)) ≡ before → got_count (take (suc k) (answers_from q ops)) ≡ got
-    → values ≡ take (length values) (values_from q ops) → (before < got → before < length values) → IsPaired op before got values answer
-    → slice_get (answers_from q ops) k ≡ Some answer
-paired_answer q ops k (Enq v) before got values answer at e f are within p = enqueue_answers q ops k v at ∙ ap Some (sym (p.done v refl))
-paired_answer q ops k Deq before got values answer at e f are within p =
-    elim (dequeue_finds q ops k at) [
-      | inl found ↦
-          let same = found.as_before in
-          found.answered ∙ ap Some (sym (p.empty refl (omega arith)))
-      | inr found ↦
-          let more = found.one_more in
-          let some : before < got = omega arith in
-          let stands : get_or (values_from q ops) before 0 ≡ found.value =
-          ap (λ (n : ℕ). get_or (values_from q ops) n 0) (sym e) ∙ get_or_from_slice_get (values_from q ops) _ found.value 0 found.stands in
-          let here : get_or values before 0 ≡ found.value =
-          ap (λ (w : List ℕ). get_or w before 0) are ∙ get_or-take (length values) (values_from q ops) before 0 (within some) ∙ stands in
-          found.answered ∙ ap (λ (v : ℕ). Some (Got v)) (sym here) ∙ ap Some (sym (p.next_value refl some))
-    ]
+pub none_left : {A : Type 0} → (xs : List A) (n : ℕ) → length xs ≤ n → drop n xs ≡ []
+none_left [] zero past = refl
+none_left [] (suc n) past = refl
+none_left (x ∷ xs) zero past = absurd (omega arith)
+none_left (x ∷ xs) (suc n) past = none_left xs n (omega arith)
 
--- one answer more
-pub answers_from-paired : (q : List ℕ) (ops : List Op) (k : ℕ) (op : Op) (before got : ℕ) (values : List ℕ) (answer : Answer) → slice_get ops k ≡ Some op
-    → got_count (answers_from q (take k ops)) ≡ before → got_count (answers_from q (take k ops ++ op ∷ [])) ≡ got
-    → values ≡ take (length values) (values_from q ops) → (before < got → before < length values) → IsPaired op before got values answer
-    → (out : List Answer) → out ≡ answers_from q (take k ops) → out ++ answer ∷ [] ≡ answers_from q (take (suc k) ops)
-answers_from-paired q ops k op before got values answer at e f are within p out begun =
-    let was = sym (ap got_count (answers_from-take q ops k)) ∙ e in
-    let is = sym (ap got_count (answers_from-take q ops (suc k))) ∙ ap (λ (some : List Op). got_count (answers_from q some)) (sym (take-push ops k op at)) ∙ f in
-    ap (λ (as_far : List Answer). as_far ++ answer ∷ []) (begun ∙ answers_from-take q ops k)
-    ∙ take-push (answers_from q ops) k answer (paired_answer q ops k op before got values answer at was is are within p)
-    ∙ sym (answers_from-take q ops (suc k))
+-- the answers so far are all
+pub all_answered : (ops : List Op) (n i q : ℕ) (vs us : List ℕ) (answers : List Answer) → length ops ≤ i → answers ++ paired (drop i ops) q us ≡ paired ops (min n (length ops)) vs → answers ≡ paired ops n vs
+all_answered ops n i q vs us answers past is = sym (ap (λ (os : List Op). answers ++ paired os q us) (none_left ops i past) ∙ append-nil answers) ∙ (is ∙ enough_min ops n vs)
 
--- an operation that a loop reads at index k
-pub take-read : (items ops : List Op) (k : ℕ) → items ≡ ops → k < length items → take k ops ++ get_or items k (Enq 0) ∷ [] ≡ take (k + 1) ops
-take-read items ops k e inside =
-    ap (λ (xs : List Op). take k xs ++ get_or items k (Enq 0) ∷ []) (sym e) ∙ sym (take_more items k (Enq 0) inside) ∙ ap (λ (xs : List Op). take (k + 1) xs) e
+-- the answers by counting are the replay's, where the values are those that the replay gets
+pub paired_right : (ops : List Op) (q vs : List ℕ) → vs ≡ take (got_count (answers_from q ops)) (values_from q ops) → paired ops (length q) vs ≡ answers_from q ops
+paired_right [] q vs e = refl
+paired_right (Enq v ∷ ops) q vs e = let long : suc (length q) ≡ length (q ++ v ∷ []) = (let l : suc (length q) ≡ length q + 1 = omega arith in l) ∙ sym (length-append q (v ∷ [])) in
+    ap (λ (xs : List Answer). Done ∷ xs) (ap (λ (n : ℕ). paired ops n vs) long
+    ∙ paired_right ops (q ++ v ∷ []) vs (e ∙ (λ i. take (got_count-done (answers_from (q ++ v ∷ []) ops) i) (sym (append_assoc q (v ∷ []) (enqueued ops)) i))))
+paired_right (Deq ∷ ops) [] vs e = ap (λ (xs : List Answer). Empty ∷ xs) (paired_right ops [] vs (e ∙ ap (λ (n : ℕ). take n (enqueued ops)) (got_count-empty (answers_from [] ops))))
+paired_right (Deq ∷ ops) (v ∷ q) vs e = let rest : List ℕ = take (got_count (answers_from q ops)) (values_from q ops) in
+    ap (paired (Deq ∷ ops) (suc (length q))) (e ∙ ap (λ (n : ℕ). take n (v ∷ values_from q ops)) (got_count-got v (answers_from q ops)))
+    ∙ ap (λ (xs : List Answer). Got v ∷ xs) (paired_right ops q rest refl)
 
-pub slice_get-read : (items ops : List Op) (k : ℕ) → items ≡ ops → k < length items → slice_get ops k ≡ Some (get_or items k (Enq 0))
-slice_get-read items ops k e inside = ap (λ (xs : List Op). slice_get xs k) (sym e) ∙ slice_get-get_or items k (Enq 0) inside
-
--- a value that is got so far is among those of the whole batch
-pub within_values : (c : Counts) (ops : List Op) (k n before got : ℕ) (values : List ℕ) → c ≡ counts_of (take (k + 1) ops) → got ≡ successes_of c n
-    → length values ≡ successes_of (counts_of ops) n → before < got → before < length values
-within_values c ops k n before got values counted is many some =
-    let le = successes_of-take-le ops (k + 1) n in
-    let now : successes_of c n ≡ successes_of (counts_of (take (k + 1) ops)) n = ap (λ (x : Counts). successes_of x n) counted in
-    omega arith
+pub length-paired : (ops : List Op) (n : ℕ) (vs : List ℕ) → length (paired ops n vs) ≡ length ops
+length-paired [] n vs = refl
+length-paired (Enq v ∷ ops) n vs = ap suc (length-paired ops (suc n) vs)
+length-paired (Deq ∷ ops) zero vs = ap suc (length-paired ops zero vs)
+length-paired (Deq ∷ ops) (suc n) [] = ap suc (length-paired ops n [])
+length-paired (Deq ∷ ops) (suc n) (v ∷ vs) = ap suc (length-paired ops n vs)

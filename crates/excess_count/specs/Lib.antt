@@ -3,3 +3,4 @@ pub mod Excess
 pub mod Got
 pub mod Counts
 pub mod Place
+pub mod Pairing

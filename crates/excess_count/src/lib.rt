@@ -13,5 +13,5 @@ mod place;
 mod tests;
 
 pub use counts::{Counts, count, successes};
-pub use pairing::answer_all;
+pub use pairing::{answer_all, pair};
 pub use place::{Which, answer_at};

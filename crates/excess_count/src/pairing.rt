@@ -1,11 +1,19 @@
 // The answers of a whole batch from the values that it gets, in one pass.
-ghost use Rattle.std.specs.Prelude.{◌≡◌, ℕ, ◌<◌, ◌≤◌, List, length, take, slice_index};
+ghost use Rattle.std.specs.Prelude.{◌≡◌, ℕ, ◌≤◌, ◌<◌, ◌+◌, ◌^◌, List, ◌∷◌, length, drop, take, slice_index};
+ghost use Rattle.bq_model.specs.declared.op.Op.{Op};
 ghost use Rattle.bq_model.specs.Replay.{answers_from};
-ghost use Rattle.excess_count.specs.Got.{values_from};
 ghost use Rattle.excess_count.specs.Counts.{counts_of, successes_of};
+ghost use Rattle.excess_count.specs.Got.{values_from};
+ghost use Rattle.excess_count.specs.Pairing.{paired};
 
-use crate::counts::{Counts, successes};
 use bq_model::{Answer, Answers, Batch, Op};
+
+/// How many values are queued before an operation, and how many of those that the batch gets went to earlier ones.
+#[derive(Clone, Copy)]
+struct Standing {
+    queued: u64,
+    got: usize,
+}
 
 /// Writes the answers of the whole batch on a queue of n values. `values` are those that its dequeues get: the
 /// first ones of the queue, and where that is too short, of those that the batch enqueues. What `out` held goes.
@@ -18,32 +26,64 @@ pub fn answer_all(batch: &Batch, n: u64, values: &[u64], out: &mut Answers)
     ensures one_answer_each { length out.new.items ≡ length batch.now.items }
     ensures capacity_stays { out.new.capacity ≡ out.old.capacity }
 {
+    pair(batch.as_slice(), n, values, out);
+}
+
+/// Writes the answers of operations before which so many values are queued. `values` are those that their dequeues get, in
+/// order. What `out` held goes.
+pub fn pair(ops: &[Op], queued: u64, values: &[u64], out: &mut Answers)
+    requires { length ops.now ≤ out.old.capacity }
+    ensures answers { out.new.items ≡ paired ops.now queued values.now }
+    ensures capacity_stays { out.new.capacity ≡ out.old.capacity }
+{
     out.clear();
-    let mut counts = Counts::empty();
-    for op in batch.as_slice() {
-        let before = successes(&counts, n);
-        counts.add(*op);
-        let got = successes(&counts, n);
-        let answer = next_answer(*op, before, got, values);
+    // More values than there are operations make no difference.
+    let mut standing = Standing {
+        queued: queued.min(ops.len() as u64),
+        got: 0,
+    };
+    for op in ops {
+        let answer = standing.answer(*op, values);
         out.push(answer);
     }
 }
 
-/// The answer of an operation before which so many values were got, and with which so many.
-fn next_answer(op: Op, before: u32, got: u32, values: &[u64]) -> Answer
-    requires { before < got → before < length values.now }
-    ensures done { (v : ℕ) → op ≡ Op.Enq v → result ≡ Answer.Done }
-    ensures next_value { op ≡ Op.Deq → before < got → result ≡ Answer.Got (slice_index values.now before) }
-    ensures empty { op ≡ Op.Deq → got ≤ before → result ≡ Answer.Empty }
-{
-    match op {
-        Op::Enq(_) => Answer::Done,
-        Op::Deq => {
-            if before < got {
-                Answer::Got(values[before as usize])
-            } else {
-                Answer::Empty
+impl Standing {
+    // The answer of the next operation.
+    fn answer(&mut self, op: Op, values: &[u64]) -> Answer
+        requires queued { self.old.queued < 2 ^ 63 }
+        requires got { self.old.got < 2 ^ 63 }
+        ensures answers { (ops : List Op) → paired (op ∷ ops) self.old.queued (drop self.old.got values.now)
+            ≡ result ∷ paired ops self.new.queued (drop self.new.got values.now) }
+        ensures queued { self.new.queued ≤ self.old.queued + 1 }
+        ensures got { self.new.got ≤ self.old.got + 1 }
+    {
+        match op {
+            Op::Enq(_) => {
+                self.queued += 1;
+                Answer::Done
+            }
+            Op::Deq => {
+                if self.queued == 0 {
+                    Answer::Empty
+                } else {
+                    let value = value_at(values, self.got);
+                    self.queued -= 1;
+                    self.got += 1;
+                    Answer::Got(value)
+                }
             }
         }
+    }
+}
+
+// The value at this index, 0 where there is none.
+fn value_at(values: &[u64], index: usize) -> u64
+    ensures { result ≡ slice_index values.now index }
+{
+    if index < values.len() {
+        values[index]
+    } else {
+        0
     }
 }

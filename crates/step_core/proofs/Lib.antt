@@ -5,7 +5,7 @@ pub mod Openings
 pub mod Landings
 pub mod Sound
 pub mod Begins
-pub mod Pairs
+pub mod Enqueued
 pub mod Schedules
 pub mod Runs
 pub mod Commands

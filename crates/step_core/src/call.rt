@@ -2,14 +2,14 @@
 ghost use Rattle.std.specs.Prelude.{◌≡◌, ◌≢◌, ℕ, ◌+◌, ◌++◌, ◌^◌, ◌<◌, ◌≤◌, IfOk, OnOk, [], ◌∷◌, length, slice_index, vec_len, vec_capacity, Some, None};
 ghost use Rattle.bq_model.specs.History.{operations};
 ghost use Rattle.bq_model.specs.Values.{enqueued};
-ghost use Rattle.core_model.specs.Batches.{paired};
+ghost use Rattle.excess_count.specs.Pairing.{paired};
 ghost use Rattle.core_model.specs.Step.{after, ended, reads_on, stepped};
 ghost use Rattle.core_model.specs.Start.{newcomer};
 ghost use Rattle.step_core.specs.Calls.{call_of, IsReady, MayEnd, MayGo};
 
-use crate::pairing::pair;
 use bq_model::{Answer, Answers, Group, Ops, OutOfMemory};
 use core_model::{AnswerPoint, BatchPoint, CallEnd, Course, Draft, Point};
+use excess_count::pair;
 use std::alloc::Global;
 use std::mem;
 use word_rows::Content;

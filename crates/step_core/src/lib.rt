@@ -1,7 +1,7 @@
 //! A lane as a machine that makes one atomic step at a time, of whichever caller is told to go on.
 //!
-//! `words` has the lane's words, `call` what it keeps of a caller, `pairing` the answers of a batch, `lists` the state with
-//! its step, and `starts` the start of a command. `machine` has `Machine`, whose state is lawful at every moment, and
+//! `words` has the lane's words, `call` what it keeps of a caller, `lists` the state with its step, and
+//! `starts` the start of a command. `machine` has `Machine`, whose state is lawful at every moment, and
 //! `schedule` runs lists of events on it.
 #![tactic(auto)]
 
@@ -9,7 +9,6 @@ mod call;
 mod laws;
 mod lists;
 mod machine;
-mod pairing;
 mod schedule;
 mod starts;
 #[cfg(test)]

@@ -1,4 +1,4 @@
-use Rattle.step_core.proofs.Pairs.{next_put}
+use Rattle.step_core.proofs.Enqueued.{next_put}
 use Rattle.step_core.proofs.starts.puts_of.Goals as goal
 
 pub loop-op-preserved : goal.loop-op-preserved

@@ -1,6 +1,6 @@
 use Rattle.std.proofs.Common.{◌≡◌, ◌+◌, ◌≤◌, ◌++◌, min, length, drop}
-use Rattle.core_model.specs.Batches.{paired}
-use Rattle.step_core.proofs.pairing.pair.Given as goal
+use Rattle.excess_count.specs.Pairing.{paired}
+use Rattle.excess_count.proofs.pairing.pair.Given as goal
 
 -- the answers so far, and those that the rest of the operations has
 abbrev pub invariant-loop-op : goal.invariant-loop-op
