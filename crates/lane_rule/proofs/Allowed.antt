@@ -1,0 +1,155 @@
+-- Each step of the machine is allowed on the table: one lemma for all kinds.
+use Rattle.std.proofs.Common.{◌≡◌, ◌≢◌, ℕ, zero, suc, inl, ◌<◌, List, [], ◌∷◌, ◌++◌, length, get_or, set, sym, refl, ap, ◌∙◌, subst, ⊎_elim, append_assoc}
+use Rattle.std.proofs.lemmas.List.{append-nil}
+use mathlib.Core.Option.{some, some-ne-none}
+use lib.ListN.{get_elem?}
+use Rattle.atomic_table.specs.Table as table
+use Rattle.atomic_table.specs.Table.{Me, keeps, stepped, Allows}
+use Rattle.atomic_table.proofs.Lists.{at_set}
+use Rattle.bq_model.specs.declared.group.Group.{Group}
+use Rattle.bq_model.specs.declared.shape.Shape.{Shape}
+use Rattle.word_rows.specs.declared.content.Content.{Content}
+use Rattle.word_rows.specs.Layout.{index_of}
+use Rattle.word_rows.specs.Contents.{coded, MayHold}
+use Rattle.word_rows.specs.Memory.{Shows}
+use Rattle.word_rows.proofs.MemoryLemmas.{Shows-words_after}
+use Rattle.core_model.specs.LaneSizes.{LaneSizes, lane_sizes}
+use Rattle.core_model.specs.declared.point.Point.{Point}
+use Rattle.core_model.specs.State.{Caller, State, own_group, read}
+use Rattle.core_model.specs.Step.{target, stored, linearizes, group_owner, added_by, history_with, after, step_at}
+use Rattle.core_model.specs.Coded.{IsCoded}
+use Rattle.core_model.specs.Lawful.{Lawful}
+use Rattle.core_model.proofs.Puts.{put_here, put_else}
+use Rattle.core_model.proofs.Steps.{preserves_at}
+use Rattle.core_model.proofs.CodedSteps.{step_writes}
+use Rattle.core_model.proofs.ReadValues.{values_fit}
+use Rattle.lane_rule.specs.declared.view.View.{View}
+use Rattle.lane_rule.specs.declared.view.Held.{Held}
+use Rattle.lane_rule.specs.declared.view.Kind.{Kind}
+use Rattle.lane_rule.specs.declared.view.Kind.TheVariants.{Maker, Alone, Gathered, Spent}
+use Rattle.lane_rule.specs.Rule.{kept_of, Begins, Runs, AllHeld, SitsAs, Sits, Ruled}
+use Rattle.lane_rule.specs.Goes.{Ready, Goes}
+use Rattle.lane_rule.proofs.Ready.{ready, found_at, coded_at, grew, knows}
+
+module _ {A : Type 0} where
+  -- a list that has an item at i takes another there
+  pub set_there : (l : List A) (i : ℕ) (a b : A) → get_elem? l i ≡ some a → get_elem? (set l i b) i ≡ some b
+  set_there [] i a b e = absurd (some-ne-none a (sym e))
+  set_there (x ∷ xs) zero a b e = refl
+  set_there (x ∷ xs) (suc i) a b e = set_there xs i a b e
+
+-- a seat whose callers keep what they have goes on, while the history grows
+held_stay : (key : Shape) (core core' : State) (seat : ℕ → ℕ) (j : ℕ) → ((d : ℕ) → seat d ≡ j → core'.callers d ≡ core.callers d) → (ks : List Held) → AllHeld key core seat j ks → AllHeld key core' seat j ks
+held_stay key core core' seat j same [] a = tt
+held_stay key core core' seat j same (k ∷ ks) a = (a.0, a.1, same k.caller a.1 ∙ a.2, held_stay key core core' seat j same ks a.3)
+
+pub longer : (seen h added : List Group) → Begins seen h → Begins seen (h ++ added)
+longer seen h added b = (b.0 ++ added, ap (λ (y : List Group). y ++ added) b.1 ∙ append_assoc seen b.0 added)
+
+pub sits_stay : (key : Shape) (core core' : State) (seat : ℕ → ℕ) (j : ℕ) (added : List Group) → ((d : ℕ) → seat d ≡ j → core'.callers d ≡ core.callers d) → core'.history ≡ core.history ++ added → (k : Kind) (u : View) → SitsAs key core seat j k u → SitsAs key core' seat j k u
+sits_stay key core core' seat j added same grew Maker u s = (s.0, s.1, λ c l. let y = s.2 c l in (y.0, same c y.0 ∙ y.1))
+sits_stay key core core' seat j added same grew Alone u s = record { alone = s.alone; shown = same u.caller s.alone ∙ s.shown; begins = subst (Begins u.seen) (sym grew) (longer u.seen core.history added s.begins); planned = s.planned; known = s.known }
+sits_stay key core core' seat j added same grew Gathered u s = (held_stay key core core' seat j same u.gathered s.0, subst (Begins u.seen) (sym grew) (longer u.seen core.history added s.1), subst (Begins u.heard) (sym grew) (longer u.heard core.history added s.2), s.3, s.4)
+sits_stay key core core' seat j added same grew Spent u s = s
+
+module _ (key : Shape) (slots id : ℕ) (me : Me ℕ View) (alone : me.0.kind ≡ Alone) where
+  abbrev z : LaneSizes
+  z = lane_sizes key
+
+  abbrev v : View
+  v = me.0
+
+  abbrev t : Point
+  t = me.0.kept.point
+
+  module _ (s : table.State ℕ View) (r : Ruled key s) (here : get_elem? s.views id ≡ some me.0) where
+    abbrev x : Content
+    x = read r.core.memory (target me.0.kept.point)
+
+    abbrev core' : State
+    core' = step_at z r.core me.0.caller me.0.kept.point
+
+    abbrev h' : List Group
+    h' = history_with z r.core me.0.caller me.0.kept.point (read r.core.memory (target me.0.kept.point))
+
+    abbrev k' : Caller
+    k' = after (length h') me.0.caller (r.core.callers me.0.caller) me.0.kept.point x
+
+    abbrev w : View
+    w = record me.0 { kept = kept_of k'; seen = h'; gathered = []; heard = [] }
+
+    grows : h' ≡ r.core.history ++ added_by z r.core.callers me.0.caller me.0.kept.point x
+    grows = grew (linearizes me.0.kept.point x) r.core.history (own_group (group_owner z me.0.caller me.0.kept.point) (r.core.callers (group_owner z me.0.caller me.0.kept.point)))
+
+    sits : Runs key r.core r.seat id me.0
+    sits = subst (λ (k : Kind). SitsAs key r.core r.seat id k me.0) alone (r.each_seat id me.0 here)
+
+    point_is : (r.core.callers me.0.caller).point ≡ me.0.kept.point
+    point_is = ap (λ (k : Caller). k.point) sits.shown
+
+    lawful' : Lawful z core'
+    lawful' = preserves_at z r.core r.lawful me.0.caller me.0.kept.point point_is
+
+    codable' : IsCoded key core'
+    codable' = coded_at key r.core r.lawful r.codable me.0.caller me.0.kept.point point_is
+
+    is_ready : Ready key me.0.kept.point
+    is_ready = subst (Ready key) point_is (ready key r.core r.lawful r.codable me.0.caller)
+
+    found_word : get_or s.words (index_of key (target me.0.kept.point)) 0 ≡ coded x
+    found_word = r.shows.each (target me.0.kept.point) is_ready.word
+
+    new_words : (n : ℕ) → n ≡ coded (stored me.0.kept.point x) → Shows key (set s.words (index_of key (target me.0.kept.point)) n) (read core'.memory)
+    new_words n is = subst (λ (y : ℕ). Shows key (set s.words (index_of key (target me.0.kept.point)) y) (read core'.memory)) (sym is)
+        (Shows-words_after key s.words (read r.core.memory) (read core'.memory) (target me.0.kept.point) (stored me.0.kept.point x) r.shows is_ready.word
+        (step_writes r.core.memory me.0.kept.point))
+
+    here' : core'.callers me.0.caller ≡ k'
+    here' = put_here r.core.callers me.0.caller k'
+
+    seated : (j : ℕ) (u : View) → get_elem? (set s.views id w) j ≡ some u → Sits key core' r.seat j u
+    seated j u e = ⊎_elim
+        (λ (p : (j ≡ id) × (w ≡ u)). subst (λ (y : ℕ × View). Sits key core' r.seat y.0 y.1) (λ i. (sym p.0 i, p.1 i)) (subst (λ (k : Kind). SitsAs key core' r.seat id k w) (sym alone) record {
+          alone = sits.alone;
+          shown = here';
+          begins = ([], sym (append-nil h'));
+          planned = sits.planned;
+          known = sits.known;
+        }))
+        (λ (p : (j ≢ id) × (get_elem? s.views j ≡ some u)). sits_stay key r.core core' r.seat j (added_by z r.core.callers me.0.caller me.0.kept.point x)
+        (λ d at. put_else r.core.callers me.0.caller k' d (λ e. p.0 (sym at ∙ (ap r.seat e ∙ sits.alone)))) grows u.kind u (r.each_seat j u p.1)) (at_set s.views id j w u e)
+
+    steps : (n : ℕ) → n ≡ coded (stored me.0.kept.point x) → Ruled key (stepped s (index_of key (target me.0.kept.point)) n id me.1 w keeps)
+    steps n is = record {
+      core = core';
+      lawful = lawful';
+      codable = codable';
+      seat = r.seat;
+      shows = new_words n is;
+      each_seat = seated;
+      longest = (id, w, set_there s.views id me.0 w here, inl refl);
+    }
+
+    goes : Goes me.0 x w
+    goes = record {
+      alone = alone;
+      next = ap (λ (k : Caller). after (length h') me.0.caller k me.0.kept.point x) sits.shown;
+      same = refl;
+      shape = refl;
+      later = (sits.begins.0 ++ added_by z r.core.callers me.0.caller me.0.kept.point x, grows ∙ ap (λ (h : List Group). h ++ added_by z r.core.callers me.0.caller me.0.kept.point x) sits.begins.1 ∙ append_assoc me.0.seen sits.begins.0 (added_by z r.core.callers me.0.caller me.0.kept.point x));
+      found = subst (λ (p : Shape). MayHold p (target me.0.kept.point) x) (sym sits.planned) (found_at key r.core r.lawful r.codable me.0.caller me.0.kept.point point_is);
+      ready = subst (λ (p : Shape). Ready p k'.point) (sym sits.planned) (subst (λ (k : Caller). Ready key k.point) here' (ready key core' lawful' codable' me.0.caller));
+      knows = knows key core' lawful' w sits.planned refl here';
+      reads = λ m r l is. subst (λ (k : Caller). length k.values < length k.ops) here' (values_fit z core' lawful' me.0.caller m r l (ap (λ (k : Caller). k.point) here' ∙ is));
+    }
+
+  -- the step is allowed where it writes what the machine stores
+  pub allows : (f : ℕ → ℕ) (then : ℕ → Me ℕ View → Type 0) → me.0.shape ≡ key → ((x : Content) → MayHold key (target me.0.kept.point) x → f (coded x) ≡ coded (stored me.0.kept.point x))
+      → ((x : Content) (w : View) → Goes me.0 x w → then (coded x) (w, me.1)) → Allows (Ruled key) slots id me (index_of key (target me.0.kept.point)) f then
+  allows f then planned writes tells s r _ here _ = let g = goes s r here in let found = found_word s r here in (
+    w s r here,
+    keeps,
+    tt,
+    steps s r here (f (get_or s.words (index_of key (target me.0.kept.point)) 0)) (ap f found ∙ writes (x s r here) (subst (λ (p : Shape). MayHold p (target me.0.kept.point) (x s r here)) planned g.found)),
+    subst (λ (n : ℕ). then n (w s r here, me.1)) (sym found) (tells (x s r here) (w s r here) g),
+  )

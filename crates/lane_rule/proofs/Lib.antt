@@ -1,0 +1,11 @@
+pub mod Expects
+pub mod Ready
+pub mod Allowed
+pub mod Single
+pub mod Seated
+pub mod StoreLaws
+pub mod Begun
+pub mod FirstSteps
+pub mod Seatings
+pub mod Openings
+pub mod FirstPoints

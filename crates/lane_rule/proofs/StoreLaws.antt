@@ -1,0 +1,73 @@
+-- After a store the caller goes on whatever the word had, and no command begins with an exchange.
+use Rattle.std.proofs.Common.{◌≡◌, ℕ, sym, ap, ◌∙◌, subst, List, [], ◌∷◌}
+use Rattle.atomic_table.specs.Seated.{TableId}
+use Rattle.atomic_table.specs.declared.shared.Seat.{Seat}
+use Rattle.bq_model.specs.declared.shape.Shape.{Shape}
+use Rattle.word_rows.specs.declared.content.Content.{Content}
+use Rattle.word_rows.specs.Contents.{MayHold}
+use Rattle.core_model.specs.declared.point.Point.{Point}
+use Rattle.core_model.specs.State.{Caller}
+use Rattle.core_model.specs.Step.{act, target}
+use Rattle.word_rows.specs.declared.location.Location.{Location}
+use Rattle.core_model.specs.declared.act.Act.TheVariants.{Store, Exchange}
+use Rattle.lane_rule.specs.declared.view.View.{View}
+use Rattle.core_model.specs.Act.{location}
+use Rattle.core_model.specs.Fits.{ActFits}
+use Rattle.lane_rule.specs.Rule.{caller_of}
+use Rattle.lane_rule.specs.Plays.{IsAt, Moves, IsIdle, Starts}
+use Rattle.bq_model.specs.declared.op.Op.{Op}
+use Rattle.bq_model.specs.declared.op.Op.TheVariants.{Enq, Deq}
+use Rattle.core_model.specs.LaneSizes.{LaneSizes, lane_sizes}
+use Rattle.core_model.specs.Start.{first_point}
+use Rattle.lane_rule.specs.Begun.{begun}
+use Rattle.lane_rule.proofs.Expects.{any_found}
+
+pub stored_moves : (id : TableId) (key s : Shape) (t : Point) (p q : Seat ℕ View) (l : Location) (y x : Content) → IsAt id key s t p → act t ≡ Store l y → Moves p x q → Moves p y q
+stored_moves id key s t p q l y x at by m = let g = m.2 in (
+  m.0,
+  m.1,
+  record {
+    alone = g.alone;
+    next = g.next ∙ any_found _ p.me.0.caller (caller_of p.me.0.kept) p.me.0.kept.point l y x y (ap act at.point ∙ by);
+    same = g.same;
+    shape = g.shape;
+    later = g.later;
+    found = subst (λ (z : Shape × Location). MayHold z.0 z.1 y) (λ i. (sym at.planned i, (ap location (sym by) ∙ ap target (sym at.point)) i)) (subst (ActFits key) by at.ready.fits);
+    ready = g.ready;
+    knows = g.knows;
+    reads = g.reads;
+  },
+  m.3,
+)
+
+no_exchange : (z : LaneSizes) (c : ℕ) (k : Caller) (ops : List Op) (l : Location) (e y : Content) → act (first_point z c k ops) ≡ Exchange l e y → ⊥
+no_exchange z c k [] l e y is = cc is
+no_exchange z c k (Enq v ∷ []) l e y is = cc is
+no_exchange z c k (Deq ∷ []) l e y is = cc is
+no_exchange z c k (op ∷ next ∷ ops) l e y is = cc is
+
+pub first_no_exchange : (id : TableId) (key s : Shape) (ops : List Op) (t : Point) (p : Seat ℕ View) (l : Location) (e y : Content) → IsIdle id key s ops t p → act t ≡ Exchange l e y → ⊥
+first_no_exchange id key s ops t p l e y at is = no_exchange (lane_sizes key) p.me.0.caller (caller_of p.me.0.kept) ops l e y (ap act at.point ∙ is)
+
+pub stored_starts : (id : TableId) (key s : Shape) (ops : List Op) (t : Point) (p q : Seat ℕ View) (l : Location) (y x : Content) → IsIdle id key s ops t p → act t ≡ Store l y → Starts p ops x q → Starts p ops y q
+stored_starts id key s ops t p q l y x at by m = let n : ℕ = m.2.0 in let g = m.2.2 in
+    let first : (begun p.me.0 m.2.0 ops).kept.point ≡ t = ap (λ (z : Shape). first_point (lane_sizes z) p.me.0.caller (caller_of p.me.0.kept) ops) at.planned ∙ at.point in (
+      m.0,
+      m.1,
+      (
+        m.2.0,
+        m.2.1,
+        record {
+          alone = g.alone;
+          next = g.next ∙ any_found _ p.me.0.caller (caller_of (begun p.me.0 m.2.0 ops).kept) (begun p.me.0 m.2.0 ops).kept.point l y x y (ap act first ∙ by);
+          same = g.same;
+          shape = g.shape;
+          later = g.later;
+          found = subst (λ (z : Shape × Location). MayHold z.0 z.1 y) (λ i. (sym at.planned i, (ap location (sym by) ∙ ap target (sym first)) i)) (subst (ActFits key) by at.ready.fits);
+          ready = g.ready;
+          knows = g.knows;
+          reads = g.reads;
+        },
+      ),
+      m.3,
+    )

@@ -1,0 +1,72 @@
+-- The words and views of a lane's table show a lawful lane.
+use Rattle.std.specs.Prelude.{◌≡◌, ◌⊎◌, ℕ, ◌<◌, ◌≤◌, List, [], ◌∷◌, ◌++◌}
+use mathlib.Core.Option.{some}
+use lib.ListN.{get_elem?}
+use Rattle.atomic_table.specs.Table as table
+use Rattle.bq_model.specs.declared.group.Group.{Group}
+use Rattle.bq_model.specs.declared.shape.Shape.{Shape}
+use Rattle.word_rows.specs.Memory.{Shows}
+use Rattle.core_model.specs.LaneSizes.{lane_sizes}
+use Rattle.core_model.specs.State.{Caller, State, read}
+use Rattle.core_model.specs.Start.{newcomer}
+use Rattle.core_model.specs.Lawful.{Lawful}
+use Rattle.core_model.specs.Coded.{IsCoded}
+use Rattle.lane_rule.specs.declared.view.View.{View}
+use Rattle.lane_rule.specs.declared.view.Kept.{Kept}
+use Rattle.lane_rule.specs.declared.view.Held.{Held}
+use Rattle.lane_rule.specs.declared.view.Kind.{Kind}
+use Rattle.lane_rule.specs.declared.view.Kind.TheVariants.{Maker, Alone, Gathered, Spent}
+
+-- what a view keeps of a caller, as the machine keeps it, and the other way round
+abbrev pub caller_of : Kept → Caller
+caller_of k = record { point = k.point; ops = k.ops; mine = k.mine; taken = k.taken; made = k.made; values = k.values; outcome = k.outcome; answers = k.answers; started_at = k.started_at; ended_at = k.ended_at }
+
+abbrev pub kept_of : Caller → Kept
+kept_of k = record { point = k.point; ops = k.ops; mine = k.mine; taken = k.taken; made = k.made; values = k.values; outcome = k.outcome; answers = k.answers; started_at = k.started_at; ended_at = k.ended_at }
+
+abbrev pub Begins : List Group → List Group → Type 0
+Begins seen history = (rest : List Group) × (history ≡ seen ++ rest)
+
+module _ (key : Shape) (core : State) (seat : ℕ → ℕ) (j : ℕ) where
+  -- the view of the seat j is its caller's
+  pub record Runs (v : View) : Type 0 where
+    pub alone : seat v.caller ≡ j
+    pub shown : core.callers v.caller ≡ caller_of v.kept
+    pub begins : Begins v.seen core.history
+    pub planned : v.shape ≡ key
+    pub known : v.caller < key.callers
+
+  abbrev pub AllHeld : List Held → Type 0
+  AllHeld [] = Unit {0}
+  AllHeld (k ∷ ks) = (k.caller < key.callers) × (seat k.caller ≡ j) × (core.callers k.caller ≡ caller_of k.kept) × AllHeld ks
+
+  -- there is a caller
+  abbrev pub HasOne : List Held → Type 0
+  HasOne [] = ⊥
+  HasOne (k ∷ ks) = Unit {0}
+
+  abbrev pub SitsAs : Kind → View → Type 0
+  SitsAs Maker v = (v.shape ≡ key) × (v.seen ≡ []) × ((c : ℕ) → v.caller ≤ c → (seat c ≡ j) × (core.callers c ≡ newcomer))
+  SitsAs Alone v = Runs v
+  SitsAs Gathered v = AllHeld v.gathered × Begins v.seen core.history × Begins v.heard core.history × (v.shape ≡ key) × HasOne v.gathered
+  SitsAs Spent v = v.seen ≡ []
+
+  abbrev pub Sits : View → Type 0
+  Sits v = SitsAs v.kind v
+
+-- some view has seen, or heard in a gathering, the whole history
+abbrev pub Longest : List View → List Group → Type 0
+Longest views h = (j : ℕ) × (v : View) × (get_elem? views j ≡ some v) × ((v.seen ≡ h) ⊎ ((v.kind ≡ Gathered) × (v.heard ≡ h)))
+
+pub record Ruled (key : Shape) (s : table.State ℕ View) : Type 0 where
+  pub core : State
+  pub lawful : Lawful (lane_sizes key) core
+  pub codable : IsCoded key core
+  pub seat : ℕ → ℕ
+  pub shows : Shows key s.words (read core.memory)
+  pub each_seat : (j : ℕ) (v : View) → get_elem? s.views j ≡ some v → Sits key core seat j v
+  pub longest : Longest s.views core.history
+
+-- the first view, from which those of the callers are cut
+abbrev pub opened : Shape → View
+opened key = record { kind = Maker; caller = 0; kept = kept_of newcomer; gathered = []; seen = []; heard = []; shape = key }

@@ -1,0 +1,142 @@
+// One step of the machine on the table of a lane.
+ghost use Rattle.std.specs.Prelude.{◌≡◌, ◌<◌, ◌^◌};
+ghost use Rattle.word_rows.specs.declared.content.Content.{Content};
+ghost use Rattle.core_model.specs.Step.{act};
+ghost use Rattle.lane_rule.specs.Plays.{IsAt, IsIdle, Moves, Starts};
+
+use crate::view::{Command, Finds, FirstFinds, FirstStores, LaneRule, Stores, View};
+use atomic_table::{Seat, Shared};
+use bq_model::Shape;
+use core_model::{Act, Point};
+use word_rows::{Content, Location};
+
+/// The table of a lane, as its callers share it.
+pub type Words = Shared<u64, View, Shape, LaneRule>;
+
+/// What a caller steps with.
+pub type Token = Seat<u64, View>;
+
+// A load.
+fn load(
+    words: &Words,
+    shape: &Shape,
+    token: &mut Token,
+    point: Point,
+    location: Location,
+) -> Content
+    requires at { IsAt words.now.table_id words.now.key shape.now point token.old }
+    requires load { act point ≡ Act.Load location }
+    ensures { Moves token.old result token.new }
+{
+    let found = words.load::<Finds>(token, location.index(shape) as usize);
+    Content::unpack(location, found).unwrap()
+}
+
+// A store. What it finds is not known.
+fn store(
+    words: &Words,
+    shape: &Shape,
+    token: &mut Token,
+    point: Point,
+    location: Location,
+    new: Content,
+)
+    requires at { IsAt words.now.table_id words.now.key shape.now point token.old }
+    requires store { act point ≡ Act.Store location new }
+    ensures { (found : Content) × Moves token.old found token.new }
+{
+    words.store::<Stores>(token, location.index(shape) as usize, new.pack());
+}
+
+// An exchange, which gives what it found.
+fn exchange(
+    words: &Words,
+    shape: &Shape,
+    token: &mut Token,
+    point: Point,
+    location: Location,
+    old: Content,
+    new: Content,
+) -> Content
+    requires at { IsAt words.now.table_id words.now.key shape.now point token.old }
+    requires exchange { act point ≡ Act.Exchange location old new }
+    ensures { Moves token.old result token.new }
+{
+    let found = words.compare_exchange::<Finds>(
+        token,
+        location.index(shape) as usize,
+        old.pack(),
+        new.pack(),
+    );
+    Content::unpack(location, found).unwrap()
+}
+
+/// The next step of the token's caller, which is at this point. Gives what the step found; a store gives what it stored.
+pub fn step(words: &Words, shape: &Shape, token: &mut Token, point: Point) -> Content
+    requires { IsAt words.now.table_id words.now.key shape.now point token.old }
+    ensures { Moves token.old result token.new }
+{
+    match point.act() {
+        Act::Load(location) => load(words, shape, token, point, location),
+        Act::Store(location, new) => {
+            store(words, shape, token, point, location, new);
+            new
+        }
+        Act::Exchange(location, old, new) => {
+            exchange(words, shape, token, point, location, old, new)
+        }
+    }
+}
+
+// A load that starts a command.
+fn first_load<C: Command>(
+    words: &Words,
+    shape: &Shape,
+    token: &mut Token,
+    point: Point,
+    location: Location,
+) -> Content
+    requires idle { IsIdle words.now.table_id words.now.key shape.now C.ops point token.old }
+    requires load { act point ≡ Act.Load location }
+    ensures { Starts token.old C.ops result token.new }
+{
+    let found = words.load::<FirstFinds<C>>(token, location.index(shape) as usize);
+    Content::unpack(location, found).unwrap()
+}
+
+// A store that starts a command.
+fn first_store<C: Command>(
+    words: &Words,
+    shape: &Shape,
+    token: &mut Token,
+    point: Point,
+    location: Location,
+    new: Content,
+)
+    requires idle { IsIdle words.now.table_id words.now.key shape.now C.ops point token.old }
+    requires store { act point ≡ Act.Store location new }
+    ensures { (found : Content) × Starts token.old C.ops found token.new }
+{
+    words.store::<FirstStores<C>>(token, location.index(shape) as usize, new.pack());
+}
+
+/// The start of a command of the token's idle caller, which begins at this point, and its first step, both in one. Gives
+/// what the step found or stored.
+pub fn first_step<C: Command>(
+    words: &Words,
+    shape: &Shape,
+    token: &mut Token,
+    point: Point,
+) -> Content
+    requires { IsIdle words.now.table_id words.now.key shape.now C.ops point token.old }
+    ensures { Starts token.old C.ops result token.new }
+{
+    match point.act() {
+        Act::Load(location) => first_load::<C>(words, shape, token, point, location),
+        Act::Store(location, new) => {
+            first_store::<C>(words, shape, token, point, location, new);
+            new
+        }
+        Act::Exchange(..) => unreachable!(),
+    }
+}
