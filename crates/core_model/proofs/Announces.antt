@@ -5,7 +5,7 @@ use Rattle.word_rows.specs.declared.link_word.LinkWord.{LinkWord}
 use Rattle.core_model.specs.declared.point.Notice.{Notice}
 use Rattle.core_model.specs.Functions.{put}
 use Rattle.core_model.specs.LaneSizes.{LaneSizes}
-use Rattle.core_model.specs.Batches.{gets}
+use Rattle.excess_count.specs.Counts.{successes_of}
 use Rattle.core_model.specs.State.{Caller}
 use Rattle.core_model.specs.Ghost.{Stage, decided}
 use Rattle.core_model.specs.Lawful.{LinksIn, Stages, Told, Pending}
@@ -38,7 +38,7 @@ stages_moved first anns stage ann notice old_tail path path' chained chained' ca
   };
   standing = λ a i e f. let t = S.standing a i e f in let h = (same a e).0 in let from = t.from in let inside = t.inside in let s = (same a e).1 in record {
     from = omega arith;
-    shows = s ∙ (t.shows ∙ ap (λ (x : ℕ). gets (notice a).counts (i - x)) (sym h));
+    shows = s ∙ (t.shows ∙ ap (λ (x : ℕ). successes_of (notice a).counts (i - x)) (sym h));
     inside = omega arith;
     tails = tails a i e f;
   };

@@ -6,7 +6,7 @@ use Rattle.bq_model.specs.History.{last_queue}
 use Rattle.excess_count.specs.Got.{got_count, values_from}
 use Rattle.excess_count.proofs.ReplayLaws.{got_count-counted}
 use Rattle.word_rows.specs.declared.place.Place.{Place}
-use Rattle.word_rows.specs.declared.batch_words.BatchCounts.{BatchCounts}
+use Rattle.excess_count.specs.declared.counts.Counts.{Counts}
 use Rattle.word_rows.specs.declared.link_word.LinkWord.{LinkWord}
 use Rattle.word_rows.specs.declared.link_word.LinkWord.TheVariants.{Nil, Single, Chain, Shut}
 use Rattle.word_rows.specs.declared.location.Location.TheVariants.{Link, Value, AnnWord}
@@ -14,7 +14,7 @@ use Rattle.word_rows.specs.declared.content.Content.TheVariants.{OfLink, OfValue
 use Rattle.core_model.specs.declared.point.Help.{Help}
 use Rattle.core_model.specs.Functions.{run}
 use Rattle.core_model.specs.LaneSizes.{LaneSizes}
-use Rattle.core_model.specs.Batches.{tally, gets}
+use Rattle.excess_count.specs.Counts.{successes_of}
 use Rattle.excess_count.specs.Pairing.{paired}
 use Rattle.excess_count.proofs.PairingLaws.{paired_right}
 use Rattle.core_model.specs.State.{Memory, Caller, State, write, own_group}
@@ -51,14 +51,14 @@ module _ (z : LaneSizes) (s : State) (L : Lawful z s) (c : ℕ) where
   own = own_group c (s.callers c)
 
   -- where all values are read, the answers are the replay's at the place of the group
-  read_right : (a i m : ℕ) (vs : List ℕ) (R : Linearized z (world s L.ghost) a i (s.callers c).started_at (own_group c (s.callers c))) (x : ℕ) → m ≡ i - R.dummy → x + 0 ≡ gets (s.memory.notice a).counts m
+  read_right : (a i m : ℕ) (vs : List ℕ) (R : Linearized z (world s L.ghost) a i (s.callers c).started_at (own_group c (s.callers c))) (x : ℕ) → m ≡ i - R.dummy → x + 0 ≡ successes_of (s.memory.notice a).counts m
       → vs ≡ run (λ j. s.memory.value (L.ghost.path j)) (suc R.dummy) x → paired (s.callers c).ops m vs ≡ answers_from (last_queue R.pre) (s.callers c).ops
   read_right a i m vs R x m_is sum vals = ap (λ (n : ℕ). paired me.ops n vs) (m_is ∙ sym R.length_queue) ∙ paired_right me.ops (last_queue R.pre) vs all where
-    many : got_count (answers_from (last_queue R.pre) me.ops) ≡ gets (s.memory.notice a).counts (i - R.dummy)
-    many = got_count-counted (tally (s.memory.notice a).counts) me.ops (last_queue R.pre) (i - R.dummy) (ap tally R.counts) R.length_queue
+    many : got_count (answers_from (last_queue R.pre) me.ops) ≡ successes_of (s.memory.notice a).counts (i - R.dummy)
+    many = got_count-counted (s.memory.notice a).counts me.ops (last_queue R.pre) (i - R.dummy) R.counts R.length_queue
 
-    all_read : x ≡ gets (s.memory.notice a).counts (i - R.dummy)
-    all_read = (let e : x ≡ x + 0 = omega arith in e) ∙ (sum ∙ ap (gets (s.memory.notice a).counts) m_is)
+    all_read : x ≡ successes_of (s.memory.notice a).counts (i - R.dummy)
+    all_read = (let e : x ≡ x + 0 = omega arith in e) ∙ (sum ∙ ap (successes_of (s.memory.notice a).counts) m_is)
 
     all : vs ≡ take (got_count (answers_from (last_queue R.pre) me.ops)) (values_from (last_queue R.pre) me.ops)
     all = vals ∙ (ap (run (λ j. s.memory.value (G.path j)) (suc R.dummy)) all_read ∙ (sym R.values ∙ ap (λ (n : ℕ). take n (values_from (last_queue R.pre) me.ops)) (sym many)))
@@ -84,7 +84,7 @@ module _ (z : LaneSizes) (s : State) (L : Lawful z s) (c : ℕ) where
     m_is : before_it h q ≡ f.here.1.0.position - linearized.1.dummy
     m_is = let R = linearized.1 in let qc = ap (λ (p : Place). p.count) (L.announced.recorded h.ann f.here.1.0.position q f.here.1.0.is_decided at_q) in let hc = ap (λ (p : Place). p.count) (sym (f.here.0.old_head (omega arith)) ∙ R.old_head) in omega arith
 
-    none_read : Holds z (world s L.ghost) c (has_read (s.callers c).started_at (own_group c (s.callers c)) (before_it h q) [] (gets h.counts (before_it h q)) h.old_head.row)
+    none_read : Holds z (world s L.ghost) c (has_read (s.callers c).started_at (own_group c (s.callers c)) (before_it h q) [] (successes_of h.counts (before_it h q)) h.old_head.row)
     none_read = let R = linearized.1 in record {
       ann = h.ann;
       position = f.here.1.0.position;
@@ -92,14 +92,14 @@ module _ (z : LaneSizes) (s : State) (L : Lawful z s) (c : ℕ) where
       linearized = R;
       read = 0;
       queued = m_is;
-      left = (let e : 0 + gets h.counts (before_it h q) ≡ gets h.counts (before_it h q) = omega arith in e) ∙ ap (λ (k : BatchCounts). gets k (before_it h q)) (sym (f.here.0.counts (omega arith)));
+      left = (let e : 0 + successes_of h.counts (before_it h q) ≡ successes_of h.counts (before_it h q) = omega arith in e) ∙ ap (λ (k : Counts). successes_of k (before_it h q)) (sym (f.here.0.counts (omega arith)));
       last_row = ap G.path (let e : R.dummy + 0 ≡ R.dummy = omega arith in e) ∙ ap (λ (p : Place). p.row) (sym R.old_head ∙ f.here.0.old_head (omega arith));
       values = refl;
     }
 
   tail_loaded : (h : Help) (x : Option Place) → s.memory.old_tail h.ann ≡ x → AtPoint z (world s L.ghost) c (s.callers c) (point.Answer (answer.LoadOldTail h)) → Lawful z (step_with z s c (point.Answer (answer.LoadOldTail h)) (OfOldTail x))
   tail_loaded h None at_none f = absurd (some_none (sym f.here.1.0.known.1 ∙ at_none))
-  tail_loaded h (Some q) at_q f = on_read (before_it h q) h.old_head.row (gets h.counts (before_it h q)) [] (write s.memory (AnnWord h.ann field.OldTail) (OfOldTail (Some q)))
+  tail_loaded h (Some q) at_q f = on_read (before_it h q) h.old_head.row (successes_of h.counts (before_it h q)) [] (write s.memory (AnnWord h.ann field.OldTail) (OfOldTail (Some q)))
       (ap (write s.memory (AnnWord h.ann field.OldTail)) (ap OfOldTail (sym at_q)) ∙ write_read s.memory (AnnWord h.ann field.OldTail)) f.call.0 (none_read h q at_q f)
 
   preserves_answer_tail : (h : Help) → (s.callers c).point ≡ point.Answer (answer.LoadOldTail h) → Lawful z (step_at z s c (point.Answer (answer.LoadOldTail h)))
@@ -108,7 +108,7 @@ module _ (z : LaneSizes) (s : State) (L : Lawful z s) (c : ℕ) where
   -- the link of a row that was read names the next one
   next_row : (m r l n : ℕ) → ((b : Bool) (x : ℕ) → joint b x ≡ s.memory.link r → x ≡ n) → Holds z (world s L.ghost) c (has_read (s.callers c).started_at (own_group c (s.callers c)) m (s.callers c).values (suc l) r)
       → Holds z (world s L.ghost) c (is_reading (s.callers c).started_at (own_group c (s.callers c)) m (s.callers c).values l n)
-  next_row m r l n names rd = let R = rd.linearized in let all : gets (s.memory.notice rd.ann).counts m ≡ gets (s.memory.notice rd.ann).counts (rd.position - R.dummy) = ap (gets (s.memory.notice rd.ann).counts) rd.queued in let e = rd.left in
+  next_row m r l n names rd = let R = rd.linearized in let all : successes_of (s.memory.notice rd.ann).counts m ≡ successes_of (s.memory.notice rd.ann).counts (rd.position - R.dummy) = ap (successes_of (s.memory.notice rd.ann).counts) rd.queued in let e = rd.left in
       let here = R.rows rd.read (omega arith) in let next = R.rows (suc rd.read) (omega arith) in let inside = next.inside in
       record {
         ann = rd.ann;

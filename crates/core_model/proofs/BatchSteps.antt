@@ -6,7 +6,7 @@ use mathlib.Core.Logic.{dite}
 use native.Mathlib.Decide.{ℕ_discrete}
 use Rattle.bq_model.specs.Values.{enqueued}
 use Rattle.word_rows.specs.declared.place.Place.{Place}
-use Rattle.word_rows.specs.declared.batch_words.BatchCounts.{BatchCounts}
+use Rattle.excess_count.specs.declared.counts.Counts.{Counts}
 use Rattle.word_rows.specs.declared.head_word.HeadWord.{HeadWord}
 use Rattle.word_rows.specs.declared.head_word.HeadWord.TheVariants.{Node, Ann}
 use Rattle.word_rows.specs.declared.link_word.LinkWord.TheVariants.{Single}
@@ -203,7 +203,7 @@ module _ (z : LaneSizes) (s : State) (L : Lawful z s) (c : ℕ) where
       apart = λ i j less below e. absurd (omega arith);
       joined = λ i below. rows.joined i (omega arith) (omega arith) ∙ ap Single (let e : suc (n.first + i) ≡ n.first + suc i = omega arith in e);
       last = λ i e. rows.nil i (omega arith) (omega arith);
-      values = let long : length (enqueued me.ops) ≡ n.counts.enqs = length-enqueued me.ops ∙ sym (ap (λ (y : BatchCounts). y.enqs) is.describes.counts) in
+      values = let long : length (enqueued me.ops) ≡ n.counts.enqs = length-enqueued me.ops ∙ sym (ap (λ (y : Counts). y.enqs) is.describes.counts) in
           run_of (enqueued me.ops) (λ i. s.memory.value (n.first + i)) 0 (λ l below. ap (λ (y : ℕ). s.memory.value (n.first + y)) (let e : 0 + l ≡ l = omega arith in e) ∙ rows.values l (omega arith) (omega arith))
           ∙ ap (run (λ i. s.memory.value (n.first + i)) 0) long;
     }

@@ -19,7 +19,8 @@ use Rattle.core_model.specs.declared.point.Point.TheVariants as point
 use Rattle.core_model.specs.declared.point.HelpPoint.TheVariants as help
 use Rattle.core_model.specs.Functions.{put, run}
 use Rattle.core_model.specs.LaneSizes.{LaneSizes, item, IsItem}
-use Rattle.core_model.specs.Batches.{own_ann, owner_of, gets}
+use Rattle.excess_count.specs.Counts.{successes_of}
+use Rattle.core_model.specs.Batches.{own_ann, owner_of}
 use Rattle.core_model.specs.State.{command, State, own_group}
 use Rattle.core_model.specs.Fact.{Fact, reads, takes_effect, since, kept}
 use Rattle.core_model.specs.Help.{back_facts}
@@ -87,9 +88,9 @@ module _ (K : Linking) where
     old_head = (announced' K).old_head (a K) (at_head K);
     before = omega arith;
     length_queue = (length_queue K) ∙ sym (rest_is K);
-    values = subst (λ (y : ℕ). take (gets (K.s.memory.notice (a K)).counts y) (values_from (last_queue K.s.history) (ko K).ops) ≡ run (v' K) (suc (G K).head) (gets (K.s.memory.notice (a K)).counts y)) (sym (rest_is K))
+    values = subst (λ (y : ℕ). take (successes_of (K.s.memory.notice (a K)).counts y) (values_from (last_queue K.s.history) (ko K).ops) ≡ run (v' K) (suc (G K).head) (successes_of (K.s.memory.notice (a K)).counts y)) (sym (rest_is K))
         (ap (take (m K)) (all_values K) ∙ take-run (v' K) (suc (G K).head) ((G K).rest + (enqs K)) (m K) (within_all K));
-    rows = λ x le. on_list x (subst (λ (y : ℕ). x ≤ gets (K.s.memory.notice (a K)).counts y) (rest_is K) le);
+    rows = λ x le. on_list x (subst (λ (y : ℕ). x ≤ successes_of (K.s.memory.notice (a K)).counts y) (rest_is K) le);
   } where
     on_list : (x : ℕ) → x ≤ (m K) → On (W K) ((G K).head + x) ((path' K) ((G K).head + x))
     on_list x le = let all = (within_all K) in record {

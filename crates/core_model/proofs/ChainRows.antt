@@ -6,13 +6,13 @@ use Rattle.bq_model.specs.declared.op.Op.{Op}
 use Rattle.bq_model.specs.declared.group.Group.{Group}
 use Rattle.bq_model.specs.History.{operations, last_queue}
 use Rattle.bq_model.proofs.Histories.{last_queue-push}
-use Rattle.excess_count.specs.Counts.{counts_of}
+use Rattle.excess_count.specs.Counts.{counts_of, successes_of}
 use Rattle.excess_count.specs.Excess.{enqueue_count, dequeue_count, excess_of}
 use Rattle.excess_count.specs.Got.{values_from}
 use Rattle.excess_count.proofs.ExcessLaws.{IsExcess-excess_of, count-ops}
 use Rattle.excess_count.proofs.ReplayLaws.{queue_from-counted}
 use Rattle.word_rows.specs.declared.place.Place.{Place}
-use Rattle.word_rows.specs.declared.batch_words.BatchCounts.{BatchCounts}
+use Rattle.excess_count.specs.declared.counts.Counts.{Counts}
 use Rattle.word_rows.specs.declared.head_word.HeadWord.TheVariants.{Node}
 use Rattle.word_rows.specs.declared.link_word.LinkWord.{LinkWord}
 use Rattle.word_rows.specs.declared.link_word.LinkWord.TheVariants.{Nil, Chain}
@@ -21,7 +21,7 @@ use Rattle.core_model.specs.declared.point.Point.TheVariants as point
 use Rattle.core_model.specs.declared.point.HelpPoint.TheVariants as help
 use Rattle.core_model.specs.Functions.{put, run}
 use Rattle.core_model.specs.LaneSizes.{LaneSizes}
-use Rattle.core_model.specs.Batches.{owner_of, tally, gets}
+use Rattle.core_model.specs.Batches.{owner_of}
 use Rattle.core_model.specs.State.{Memory, Caller, State, own_group}
 use Rattle.core_model.specs.Fact.{reads, linked, tail_seen, before_end}
 use Rattle.core_model.specs.Step.{stepped}
@@ -153,7 +153,7 @@ module _ (K : Linking) where
 
   -- how many values the batch gets, and how many rows are left behind the shown head
   abbrev pub m : ℕ
-  m = gets (s.memory.notice h.ann).counts L.ghost.rest
+  m = successes_of (s.memory.notice h.ann).counts L.ghost.rest
 
   abbrev pub left : ℕ
   left = L.ghost.rest + enqs - m
@@ -180,11 +180,11 @@ module _ (K : Linking) where
   abbrev pub k' : Caller
   k' = stepped (s.callers c) (point.Help h help.LoadTail)
 
-  pub counts_are : tally (s.memory.notice a).counts ≡ counts_of ko.ops
-  counts_are = ap tally T.describes.counts
+  pub counts_are : (s.memory.notice a).counts ≡ counts_of ko.ops
+  counts_are = T.describes.counts
 
   pub within_all : m ≤ G.rest + enqs
-  within_all = let cover = covered ko.ops in let k = T.describes.counts in let es = ap (λ (y : BatchCounts). y.enqs) k in let ds = ap (λ (y : BatchCounts). y.deqs) k in let xs = ap (λ (y : BatchCounts). y.excess) k in omega arith
+  within_all = let cover = covered ko.ops in let k = T.describes.counts in let es = ap (λ (y : Counts). y.enqs) k in let ds = ap (λ (y : Counts). y.deqs) k in let xs = ap (λ (y : Counts). y.excess) k in omega arith
 
   pub row_is : p.row ≡ G.path e
   row_is = sym on.on.row ∙ ap G.path end_is
@@ -297,14 +297,14 @@ module _ (K : Linking) where
       ++ run_moved v' (λ j. s.memory.value (G.chain j)) (suc G.head + G.rest) 0 enqs (λ x below. ap s.memory.value (new_path (suc G.head + G.rest + x) x (omega arith)) ∙ ap (λ (y : ℕ). s.memory.value (G.chain y)) (let f : x ≡ 0 + x = omega arith in f)) i))
 
   pub queue' : last_queue (s.history ++ own ∷ []) ≡ shown_queue s.memory.value G'
-  queue' = last_queue-push s.history own ∙ (queue_from-counted (tally (s.memory.notice a).counts) ko.ops (last_queue s.history) G.rest counts_are length_queue
+  queue' = last_queue-push s.history own ∙ (queue_from-counted (s.memory.notice a).counts ko.ops (last_queue s.history) G.rest counts_are length_queue
       ∙ (ap (drop m) all_values ∙ (drop-run v' (suc G.head) (G.rest + enqs) m within_all ∙ ap (λ (y : ℕ). run v' y left) (let f : suc G.head + m ≡ suc (G.head + m) = omega arith in f))))
 
   pub some_ops : ko.ops ≢ []
-  some_ops none = let some = P.some in let k = ap (λ (y : BatchCounts). y.enqs) T.describes.counts ∙ ap enqueue_count none in absurd (omega arith)
+  some_ops none = let some = P.some in let k = ap (λ (y : Counts). y.enqs) T.describes.counts ∙ ap enqueue_count none in absurd (omega arith)
 
   pub counts' : G.head + (G.rest + enqs) ≤ length (operations (s.history ++ own ∷ []))
-  counts' = let made = L.list.counts in let all = length-operations-push s.history own in let k = ap (λ (y : BatchCounts). y.enqs) T.describes.counts in let parts = count-ops ko.ops in omega arith
+  counts' = let made = L.list.counts in let all = length-operations-push s.history own in let k = ap (λ (y : Counts). y.enqs) T.describes.counts in let parts = count-ops ko.ops in omega arith
 
   -- stages after the step
   abbrev pub stage' : ℕ → Stage
@@ -340,7 +340,7 @@ module _ (K : Linking) where
     joined = λ j above below. new_chained j (j - n) (omega arith);
     reached = omega arith;
     old_dummy = (G.head, L.announced.old_head a at_head ∙ ap (λ (r : ℕ). record { row = r; count = z.first + G.head }) (sym (old_path G.head (omega arith))), omega arith);
-    covered = let cover = covered ko.ops in let k = T.describes.counts in let es = ap (λ (y : BatchCounts). y.enqs) k in let ds = ap (λ (y : BatchCounts). y.deqs) k in let xs = ap (λ (y : BatchCounts). y.excess) k in omega arith;
+    covered = let cover = covered ko.ops in let k = T.describes.counts in let es = ap (λ (y : Counts). y.enqs) k in let ds = ap (λ (y : Counts). y.deqs) k in let xs = ap (λ (y : Counts). y.excess) k in omega arith;
   }
 
   pub bound_old : (x i : ℕ) → G.stage x ≡ decided i → Bound z.first path' chained' (put G.cause e a) (G.head + (G.rest + enqs)) G.tail (s.memory.notice x) x i
@@ -363,7 +363,7 @@ module _ (K : Linking) where
   pub standing_here : Standing G.head m G.tail (s.memory.notice a) e
   standing_here = let l = within_all in record {
     from = omega arith;
-    shows = ap (gets (s.memory.notice a).counts) (sym rest_is);
+    shows = ap (successes_of (s.memory.notice a).counts) (sym rest_is);
     inside = omega arith;
     tails = inl tail_is;
   }

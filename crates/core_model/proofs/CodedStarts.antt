@@ -96,7 +96,7 @@ module _ (key : Shape) (s : State) (L : Lawful (lane_sizes key) s) (R : IsCoded 
       abbrev s' : State
       s' = record { memory = s.memory; history = s.history; callers = put s.callers c (started z (length s.history) c (s.callers c) ops) }
 
-      begun_lawful : Lawful z s'
+      pub begun_lawful : Lawful z s'
       begun_lawful = started_lawful z s L c idle (no_operation z s L c idle) at ops is rows left
 
       here : (put s.callers c k') c ≡ k'
@@ -137,7 +137,7 @@ module _ (key : Shape) (s : State) (L : Lawful (lane_sizes key) s) (R : IsCoded 
         subst (λ (ys : List Op). get_or (enqueued ys) 0 0 < 2 ^ 64) (sym e) (values 0),
       )
 
-      begun_coded : IsCoded key record { memory = s.memory; history = s.history; callers = put s.callers c (started z (length s.history) c (s.callers c) ops) }
+      pub begun_coded : IsCoded key record { memory = s.memory; history = s.history; callers = put s.callers c (started z (length s.history) c (s.callers c) ops) }
       begun_coded = record {
         words = R.words;
         points = put_all s.callers c k' (λ d k. PointFits key k.point) (point_fits ops refl) (λ d _. R.points d);

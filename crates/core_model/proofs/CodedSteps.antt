@@ -9,6 +9,7 @@ use Rattle.word_rows.specs.declared.location.AnnField.TheVariants.{OldHead, OldT
 use Rattle.word_rows.specs.declared.location.Location.{Location}
 use Rattle.word_rows.specs.declared.location.Location.TheVariants.{AnnWord}
 use Rattle.word_rows.specs.declared.content.Content.{Content}
+use Rattle.word_rows.specs.Memory.{Writes}
 use Rattle.word_rows.specs.Contents.{MayHold}
 use Rattle.word_rows.specs.Layout.{IsValid, index_of}
 use Rattle.word_rows.specs.Sizes.{rows_of, anns_of}
@@ -106,6 +107,10 @@ module _ (m : Memory) where
 
   stored_held : (t : Point) → IsHeld (target t) (stored t (read m (target t)))
   stored_held t = effect_held (act t) (read m (target t)) (act_held t) (found_held t)
+
+  -- a step writes its word, and no other
+  pub step_writes : (t : Point) → Writes (read m) (target t) (stored t (read m (target t))) (read (write m (target t) (stored t (read m (target t)))))
+  step_writes t = writes m (target t) (stored t (read m (target t))) (stored_held t)
 
 module _ (s : Shape) where
   field_fits : (d : Draft) (f : AnnField) → DraftFits s d → MayHold s (AnnWord d.ann f) (field_in d.notice f)
@@ -205,7 +210,7 @@ module _ (key : Shape) (s : State) (L : Lawful (lane_sizes key) s) (R : IsCoded 
   groups = length (history_with z s c (s.callers c).point (read s.memory (target (s.callers c).point)))
 
   words_fit : (l : Location) → IsValid key l → MayHold key l (read (write s.memory (target here) (stored here (read s.memory (target here)))) l)
-  words_fit l ok = let w = writes s.memory (target here) (stored here (read s.memory (target here))) (stored_held s.memory here) in elim (cases_eq (index_of key l) (index_of key (target here))) [
+  words_fit l ok = let w = step_writes s.memory here in elim (cases_eq (index_of key l) (index_of key (target here))) [
     | inl same ↦ let one : l ≡ target here = index_of-once key l (target here) ok point_valid same in
         subst (λ (k : Location). MayHold key k (read (write s.memory (target here) (stored here (read s.memory (target here)))) k)) (sym one) (subst (MayHold key (target here)) (sym w.here) stored_fits)
     | inr other ↦ subst (MayHold key l) (sym (w.elsewhere l (λ e. other (ap (index_of key) e)))) (R.words l ok)

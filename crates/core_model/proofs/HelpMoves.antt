@@ -5,7 +5,7 @@ use Rattle.std.proofs.lemmas.Bool.{eqb-true, and_from, and_parts, lt-ltb}
 use mathlib.Core.Logic.{dite}
 use native.Mathlib.Decide.{dec_le}
 use Rattle.word_rows.specs.declared.place.Place.{Place}
-use Rattle.word_rows.specs.declared.batch_words.BatchCounts.{BatchCounts}
+use Rattle.excess_count.specs.declared.counts.Counts.{Counts}
 use Rattle.word_rows.specs.declared.head_word.HeadWord.{HeadWord}
 use Rattle.word_rows.specs.declared.head_word.HeadWord.TheVariants.{Node, Ann}
 use Rattle.word_rows.specs.declared.link_word.LinkWord.{LinkWord}
@@ -19,7 +19,7 @@ use Rattle.core_model.specs.declared.point.Point.TheVariants as point
 use Rattle.core_model.specs.declared.point.HelpPoint.TheVariants as help
 use Rattle.core_model.specs.Functions.{run}
 use Rattle.core_model.specs.LaneSizes.{LaneSizes}
-use Rattle.core_model.specs.Batches.{gets}
+use Rattle.excess_count.specs.Counts.{successes_of}
 use Rattle.core_model.specs.State.{Memory, Caller, command, State, write}
 use Rattle.core_model.specs.Act.{same_place, is_ann, far_behind}
 use Rattle.core_model.specs.Fact.{reads, old_tail_is, tail_over, gets_so_many, walks}
@@ -73,7 +73,7 @@ module _ (z : LaneSizes) (s : State) (L : Lawful z s) (c : ℕ) where
     n = before_it h q
 
     abbrev m : ℕ
-    m = gets h.counts (before_it h q)
+    m = successes_of h.counts (before_it h q)
 
     abbrev i : ℕ
     i = old.position
@@ -101,9 +101,9 @@ module _ (z : LaneSizes) (s : State) (L : Lawful z s) (c : ℕ) where
     so_many = record {
       position = old.position;
       is_decided = old.is_decided;
-      shown = (λ at_head. (L.announced.standing h.ann old.position at_head old.is_decided).shows ∙ (λ y. gets (counts_is y) ((let e = n_is in let d = dummy_is at_head in let f : old.position - G.head ≡ n = omega arith in f) y)));
+      shown = (λ at_head. (L.announced.standing h.ann old.position at_head old.is_decided).shows ∙ (λ y. successes_of (counts_is y) ((let e = n_is in let d = dummy_is at_head in let f : old.position - G.head ≡ n = omega arith in f) y)));
       inside = let e = n_is in let covered = B.covered in let within = B.within in let before = B.old_dummy.2 in let hc = ap (λ (p : Place). p.count) old_head_is in
-          let enqs = ap (λ (y : BatchCounts). y.enqs) counts_is in let deqs = ap (λ (y : BatchCounts). y.deqs) counts_is in let excess = ap (λ (y : BatchCounts). y.excess) counts_is in omega arith;
+          let enqs = ap (λ (y : Counts). y.enqs) counts_is in let deqs = ap (λ (y : Counts). y.deqs) counts_is in let excess = ap (λ (y : Counts). y.excess) counts_is in omega arith;
     }
 
     tails : Holds z (world s L.ghost) c (tail_over h.ann)
@@ -208,7 +208,7 @@ module _ (z : LaneSizes) (s : State) (L : Lawful z s) (c : ℕ) where
         item_rows = L.list.item_rows;
         head = L.list.head;
         tail = record {
-          named = let count = ap (λ (p : Place). p.count) (sym is ∙ L.list.tail.named) in let same = ap (λ (y : BatchCounts). y.enqs) (reading.counts (omega arith)) in
+          named = let count = ap (λ (p : Place). p.count) (sym is ∙ L.list.tail.named) in let same = ap (λ (y : Counts). y.enqs) (reading.counts (omega arith)) in
               λ i. record { row = (sym (reading.last (omega arith)) ∙ (sym BO.ends ∙ ap (λ (y : ℕ). L.ghost.path (y + enqs)) (sym t))) i; count = (let f : q.count + h.counts.enqs ≡ z.first + (L.ghost.tail + enqs) = omega arith in f) i };
           after_head = omega arith;
           within = omega arith;
@@ -233,7 +233,7 @@ module _ (z : LaneSizes) (s : State) (L : Lawful z s) (c : ℕ) where
       let s' : State = record { memory = record s.memory { tail = far_behind q h.last h.counts.enqs }; history = s.history; callers = s.callers } in
       let V : Lawful z s' = went_over h q f.call.0 f.here.0 there in let g = known z s' V c (point.Help h (help.MoveTailOver q)) is in
       (point_changes z s' V c (point.Help h (walk h q)) (walk_begins z s' V c h q g.call.0 g.here.0
-      (past_old z s' V h.ann g.here.0.position q g.here.0.is_decided g.here.0.old_tail (λ e. let some = (V.announced.bound h.ann g.here.0.position g.here.0.is_decided).some in let enqs = ap (λ (y : BatchCounts). y.enqs) (g.call.0.counts (omega arith)) in let count : q.count + h.counts.enqs ≡ q.count = ap (λ (p : Place). p.count) e in absurd (omega arith))) g.call.1))
+      (past_old z s' V h.ann g.here.0.position q g.here.0.is_decided g.here.0.old_tail (λ e. let some = (V.announced.bound h.ann g.here.0.position g.here.0.is_decided).some in let enqs = ap (λ (y : Counts). y.enqs) (g.call.0.counts (omega arith)) in let count : q.count + h.counts.enqs ≡ q.count = ap (λ (p : Place). p.count) e in absurd (omega arith))) g.call.1))
   over_moved h q false same is = let f = known z s L c (point.Help h (help.MoveTailOver q)) is in stutters z s L c (point.Help h (walk h q)) Tail (OfTail s.memory.tail) refl
       (walk_begins z s L c h q f.call.0 f.here.0 (past_old z s L h.ann f.here.0.position q f.here.0.is_decided f.here.0.old_tail (λ e. differ (sym (same_place_refl s.memory.tail q e) ∙ same))) f.call.1)
 

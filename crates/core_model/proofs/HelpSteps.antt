@@ -22,7 +22,7 @@ use Rattle.word_rows.specs.Fits.{limits_of, PlaceFits}
 use Rattle.word_rows.specs.Sizes.{rows_of}
 use Rattle.core_model.specs.declared.point.Back.{Back}
 use Rattle.core_model.specs.Act.{same_place, location}
-use Rattle.core_model.specs.Batches.{gets}
+use Rattle.excess_count.specs.Counts.{successes_of}
 use Rattle.core_model.specs.Fits.{BackFits, HelpFits}
 use Rattle.core_model.specs.Coded.{PointFits, CourseFits}
 use Rattle.core_model.specs.Help.{help_of, before_it, walk_on, walk, back_point}
@@ -74,7 +74,7 @@ module _ (s : Shape) where
   walks_on n r (suc l) b = b
 
   walks : (h : Help) (q : Place) → HelpFits s h → PlaceFits (limits_of s) q → helping.fits s (walk h q)
-  walks h q a b = let n = before_it h q in let m = gets h.counts (before_it h q) in
+  walks h q a b = let n = before_it h q in let m = successes_of h.counts (before_it h q) in
       help_either (ltb m n) (walk_on m h.old_head.row m) (walk_on m q.row (m - n)) (walks_on m h.old_head.row m a.old_head.0) (walks_on m q.row (m - n) b.0)
 
   goes_back : (h : Help) (b : Back) → HelpFits s h → BackFits s b → PointFits s (back_point h b)

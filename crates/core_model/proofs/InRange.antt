@@ -14,8 +14,8 @@ use Rattle.core_model.specs.declared.point.Point.TheVariants as point
 use Rattle.core_model.specs.declared.point.EnqueuePoint.TheVariants as enq
 use Rattle.core_model.specs.declared.point.HelpPoint.TheVariants as help
 use Rattle.core_model.specs.LaneSizes.{LaneSizes, lane_sizes}
-use Rattle.word_rows.specs.declared.batch_words.BatchCounts.{BatchCounts}
-use Rattle.core_model.specs.Batches.{gets}
+use Rattle.excess_count.specs.declared.counts.Counts.{Counts}
+use Rattle.excess_count.specs.Counts.{successes_of}
 use Rattle.core_model.specs.State.{State, own_group}
 use Rattle.core_model.specs.Fact.{next_is}
 use Rattle.core_model.specs.Step.{target}
@@ -50,7 +50,7 @@ module _ (z : LaneSizes) (s : State) (L : Lawful z s) where
     fits_at c (point.Dequeue (deq.MoveHead p n v)) f = count_fits c p n f.here.0
     fits_at c (point.Help h (help.PassTail p n)) f = count_fits c p n f.here.0
     fits_at c (point.Help h (help.MoveTailOver q)) f = let old = f.here.0 in let within = (L.announced.bound h.ann old.position old.is_decided).within in let count = ap (λ (p : Place). p.count) (L.announced.recorded h.ann old.position q old.is_decided old.old_tail) in
-        let enqs = ap (λ (k : BatchCounts). k.enqs) (f.call.0.counts (omega arith)) in let made = L.list.counts in let all = all_within in omega arith
+        let enqs = ap (λ (k : Counts). k.enqs) (f.call.0.counts (omega arith)) in let made = L.list.counts in let all = all_within in omega arith
     fits_at c (point.Help h (help.MoveHead m r)) f = let sum = f.here.1.0.inside in let made = L.list.counts in let all = all_within in omega arith
     fits_at c _ f = tt
 
@@ -85,8 +85,8 @@ module _ (z : LaneSizes) (s : State) (L : Lawful z s) where
   word_at c (point.Help h (help.RecordTail p)) f = f.call.0.inside
   word_at c (point.Help h (help.LoadWalk m r l)) f = f.here.0.inside
   word_at c (point.Answer (answer.LoadOldTail h)) f = f.here.0.inside
-  word_at c (point.Answer (answer.LoadLink m r l)) f = let rd = f.here.0 in subst (λ (y : ℕ). y < z.rows) rd.last_row (L.list.rows.inside (rd.linearized.dummy + rd.read) (rd.linearized.rows rd.read (let e = rd.left in let all = ap (gets (s.memory.notice rd.ann).counts) rd.queued in omega arith)).inside)
-  word_at c (point.Answer (answer.LoadValue m r l)) f = let rd = f.here.0 in let R = rd.linearized in let e = rd.left in let all = ap (gets (s.memory.notice rd.ann).counts) rd.queued in let inside = (R.rows (suc rd.read) (omega arith)).inside in subst (λ (y : ℕ). y < z.rows) rd.next_row (L.list.rows.inside (suc (R.dummy + rd.read)) (omega arith))
+  word_at c (point.Answer (answer.LoadLink m r l)) f = let rd = f.here.0 in subst (λ (y : ℕ). y < z.rows) rd.last_row (L.list.rows.inside (rd.linearized.dummy + rd.read) (rd.linearized.rows rd.read (let e = rd.left in let all = ap (successes_of (s.memory.notice rd.ann).counts) rd.queued in omega arith)).inside)
+  word_at c (point.Answer (answer.LoadValue m r l)) f = let rd = f.here.0 in let R = rd.linearized in let e = rd.left in let all = ap (successes_of (s.memory.notice rd.ann).counts) rd.queued in let inside = (R.rows (suc rd.read) (omega arith)).inside in subst (λ (y : ℕ). y < z.rows) rd.next_row (L.list.rows.inside (suc (R.dummy + rd.read)) (omega arith))
   word_at c _ f = tt
 
   pub is_word : (c : ℕ) → IsWord z.rows (z.callers * z.callers) (target (s.callers c).point)

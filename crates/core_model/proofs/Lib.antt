@@ -27,6 +27,7 @@ pub mod Steps
 pub mod Shows
 pub mod Alone
 pub mod Ends
+pub mod FirstPoints
 pub mod Finds
 pub mod Standings
 pub mod Notes

@@ -2,7 +2,7 @@
 use Rattle.std.proofs.Common.{◌≡◌, ℕ, suc, ◌<◌, Bool, true, false, cond, length, ap, ◌∙◌, sym, arith, Option, Some, None}
 use Rattle.std.proofs.lemmas.List.Sums.{count_by-le-length}
 use Rattle.excess_count.specs.Excess.{is_dequeue}
-use Rattle.word_rows.specs.declared.batch_words.BatchCounts.{BatchCounts}
+use Rattle.excess_count.specs.declared.counts.Counts.{Counts}
 use Rattle.word_rows.specs.declared.link_word.LinkWord.{LinkWord}
 use Rattle.word_rows.specs.declared.link_word.LinkWord.TheVariants.{Nil, Single, Chain, Shut}
 use Rattle.word_rows.specs.declared.place.Place.{Place}
@@ -34,7 +34,7 @@ pub values_fit : (z : LaneSizes) (s : State) → Lawful z s → (c m r l : ℕ) 
 values_fit z s L c m r l is = by (known z s L c (point.Answer (answer.LoadValue m r l)) is) where
   by : AtPoint z (world s L.ghost) c (s.callers c) (point.Answer (answer.LoadValue m r l)) → length (s.callers c).values < length (s.callers c).ops
   by f = let rd = f.here.0 in let R = rd.linearized in let n = ap length rd.values ∙ length-run (λ j. s.memory.value (L.ghost.path j)) (suc R.dummy) rd.read in
-      let counts = ap (λ (k : BatchCounts). k.deqs) R.counts in let most = count_by-le-length is_dequeue (s.callers c).ops in let total = rd.left in omega arith
+      let counts = ap (λ (k : Counts). k.deqs) R.counts in let most = count_by-le-length is_dequeue (s.callers c).ops in let total = rd.left in omega arith
 
 -- one value more is read at this point alone
 module _ (m r l v : ℕ) where

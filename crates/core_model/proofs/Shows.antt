@@ -9,7 +9,7 @@ use Rattle.word_rows.specs.declared.link_word.LinkWord.{LinkWord}
 use Rattle.word_rows.specs.declared.link_word.LinkWord.TheVariants.{Nil, Single, Chain, Shut}
 use Rattle.core_model.specs.Functions.{run}
 use Rattle.core_model.specs.LaneSizes.{LaneSizes}
-use Rattle.core_model.specs.Batches.{gets}
+use Rattle.excess_count.specs.Counts.{successes_of}
 use Rattle.core_model.specs.State.{State}
 use Rattle.core_model.specs.Act.{is_unknown}
 use Rattle.core_model.specs.Ghost.{Stage, unused, waiting, decided, Ghost, joint, at}
@@ -83,17 +83,17 @@ module _ (z : LaneSizes) (s : State) (L : Lawful z s) where
       ap (λ (p : Place). p.count) L.list.tail.named ∙ ap (λ (y : ℕ). z.first + y) here,
     )
 
-    gets_shown : gets (s.memory.notice a).counts ((decided_behind (s.memory.old_tail a) s.memory.tail).count - (s.memory.notice a).old_head.count) ≡ G.shown
+    gets_shown : successes_of (s.memory.notice a).counts ((decided_behind (s.memory.old_tail a) s.memory.tail).count - (s.memory.notice a).old_head.count) ≡ G.shown
     gets_shown = let count = (decided_so (s.memory.old_tail a) refl).1 in let head = ap (λ (p : Place). p.count) old_head_is in
-        ap (gets (s.memory.notice a).counts) (let e : (decided_behind (s.memory.old_tail a) s.memory.tail).count - (s.memory.notice a).old_head.count ≡ i - G.head = omega arith in e) ∙ sym (L.announced.standing a i at_head d).shows
+        ap (successes_of (s.memory.notice a).counts) (let e : (decided_behind (s.memory.old_tail a) s.memory.tail).count - (s.memory.notice a).old_head.count ≡ i - G.head = omega arith in e) ∙ sym (L.announced.standing a i at_head d).shows
 
   shown_head_is : shown_head s.memory s.memory.head ≡ G.path (G.head + G.shown)
   shown_head_is = ap (shown_head s.memory) L.list.head.named ∙ by G.ann refl where
     standing : (a : ℕ) → G.ann ≡ Some a → (x : Stage) → G.stage a ≡ x → shown_head s.memory (Ann a (z.first + G.head)) ≡ G.path (G.head + G.shown)
     standing a at_head unused u = absurd (L.announced.installed a at_head u)
-    standing a at_head waiting w = ap (λ (b : Bool). cond b (row_behind s.memory (s.memory.notice a).old_head.row (gets (s.memory.notice a).counts ((decided_behind (s.memory.old_tail a) s.memory.tail).count - (s.memory.notice a).old_head.count))) (s.memory.notice a).old_head.row) (waits_undecided a w)
+    standing a at_head waiting w = ap (λ (b : Bool). cond b (row_behind s.memory (s.memory.notice a).old_head.row (successes_of (s.memory.notice a).counts ((decided_behind (s.memory.old_tail a) s.memory.tail).count - (s.memory.notice a).old_head.count))) (s.memory.notice a).old_head.row) (waits_undecided a w)
         ∙ (ap (λ (p : Place). p.row) (L.announced.old_head a at_head) ∙ ap G.path (let none = (L.announced.waits a w).1 in let e : G.head ≡ G.head + G.shown = omega arith in e))
-    standing a at_head (decided i) d = ap (λ (b : Bool). cond b (row_behind s.memory (s.memory.notice a).old_head.row (gets (s.memory.notice a).counts ((decided_behind (s.memory.old_tail a) s.memory.tail).count - (s.memory.notice a).old_head.count))) (s.memory.notice a).old_head.row) (decided_so a i at_head d (s.memory.old_tail a) refl).0
+    standing a at_head (decided i) d = ap (λ (b : Bool). cond b (row_behind s.memory (s.memory.notice a).old_head.row (successes_of (s.memory.notice a).counts ((decided_behind (s.memory.old_tail a) s.memory.tail).count - (s.memory.notice a).old_head.count))) (s.memory.notice a).old_head.row) (decided_so a i at_head d (s.memory.old_tail a) refl).0
         ∙ ((λ k. row_behind s.memory (ap (λ (p : Place). p.row) (old_head_is a i at_head d) k) (gets_shown a i at_head d k)) ∙ row_on_list G.head G.shown (omega arith) (let fits = L.list.head.fits in omega arith))
 
     by : (x : Option ℕ) → G.ann ≡ x → shown_head s.memory (head_word z.first G.path G.head x) ≡ G.path (G.head + G.shown)

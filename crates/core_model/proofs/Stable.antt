@@ -8,7 +8,8 @@ use Rattle.word_rows.specs.declared.place.Place.{Place}
 use Rattle.core_model.specs.declared.point.Notice.{Notice}
 use Rattle.core_model.specs.Functions.{run}
 use Rattle.core_model.specs.LaneSizes.{LaneSizes, item}
-use Rattle.core_model.specs.Batches.{owner_of, gets}
+use Rattle.excess_count.specs.Counts.{successes_of}
+use Rattle.core_model.specs.Batches.{owner_of}
 use Rattle.core_model.specs.State.{Caller, State}
 use Rattle.core_model.specs.declared.point.Help.{Help}
 use Rattle.core_model.specs.declared.point.HelpPoint.{HelpPoint}
@@ -189,11 +190,11 @@ module _ (z : LaneSizes) (Touch : ℕ → Type 0) (a b : World) (g : Rely z Touc
   notice_stable x i e = g.anns.notice_same x (is_installed x i e)
 
   -- the first values behind a dummy stay
-  values_stable : (x i n : ℕ) (own : Group) (R : Linearized z a x i n own) (m : ℕ) → m ≤ gets (a.memory.notice x).counts (i - R.dummy)
+  values_stable : (x i n : ℕ) (own : Group) (R : Linearized z a x i n own) (m : ℕ) → m ≤ successes_of (a.memory.notice x).counts (i - R.dummy)
       → run (λ j. a.memory.value (a.ghost.path j)) (suc R.dummy) m ≡ run (λ j. b.memory.value (b.ghost.path j)) (suc R.dummy) m
   values_stable x i n own R m le = run_same (λ j. a.memory.value (a.ghost.path j)) (λ j. b.memory.value (b.ghost.path j)) (suc R.dummy) m
       (λ j from below. subst (λ (y : ℕ). a.memory.value (a.ghost.path y) ≡ b.memory.value (b.ghost.path y)) (let e : R.dummy + (j - R.dummy) ≡ j = omega arith in e) (one (j - R.dummy) (omega arith))) where
-        one : (y : ℕ) → y ≤ gets (a.memory.notice x).counts (i - R.dummy) → a.memory.value (a.ghost.path (R.dummy + y)) ≡ b.memory.value (b.ghost.path (R.dummy + y))
+        one : (y : ℕ) → y ≤ successes_of (a.memory.notice x).counts (i - R.dummy) → a.memory.value (a.ghost.path (R.dummy + y)) ≡ b.memory.value (b.ghost.path (R.dummy + y))
         one y l = let on = R.rows y l in sym (ap b.memory.value (g.path_same (R.dummy + y) on.inside) ∙ (g.on_same (R.dummy + y) (a.ghost.path (R.dummy + y)) on).2)
 
   -- a batch that stands in the history goes on to do so
@@ -208,9 +209,9 @@ module _ (z : LaneSizes) (Touch : ℕ → Type 0) (a b : World) (g : Rely z Touc
     old_head = ap (λ (s : Notice). s.old_head) notice ∙ (R.old_head ∙ ap (λ (r : ℕ). record { row = r; count = z.first + R.dummy }) (sym (g.path_same R.dummy (let l = first_on.inside in omega arith))));
     before = R.before;
     length_queue = R.length_queue;
-    values = ap (λ (s : Notice). take (gets s.counts (i - R.dummy)) (values_from (last_queue R.pre) own.ops)) notice
-        ∙ (R.values ∙ (values_stable x i n own R (gets (a.memory.notice x).counts (i - R.dummy)) (omega arith) ∙ ap (λ (s : Notice). run (λ j. b.memory.value (b.ghost.path j)) (suc R.dummy) (gets s.counts (i - R.dummy))) (sym notice)));
-    rows = λ y l. let on = R.rows y (subst (λ (s : Notice). y ≤ gets s.counts (i - R.dummy)) notice l) in
+    values = ap (λ (s : Notice). take (successes_of s.counts (i - R.dummy)) (values_from (last_queue R.pre) own.ops)) notice
+        ∙ (R.values ∙ (values_stable x i n own R (successes_of (a.memory.notice x).counts (i - R.dummy)) (omega arith) ∙ ap (λ (s : Notice). run (λ j. b.memory.value (b.ghost.path j)) (suc R.dummy) (successes_of s.counts (i - R.dummy))) (sym notice)));
+    rows = λ y l. let on = R.rows y (subst (λ (s : Notice). y ≤ successes_of s.counts (i - R.dummy)) notice l) in
         subst (On b (R.dummy + y)) (sym (g.path_same (R.dummy + y) on.inside)) (on_stable (R.dummy + y) (a.ghost.path (R.dummy + y)) on);
   }
 
@@ -292,13 +293,13 @@ module _ (z : LaneSizes) (Touch : ℕ → Type 0) (a b : World) (g : Rely z Touc
     linearized = linearized_stable x.ann x.position n own x.is_decided x.linearized;
     read = x.read;
     queued = x.queued;
-    left = x.left ∙ ap (λ (s : Notice). gets s.counts m) (sym (notice_stable x.ann x.position x.is_decided));
+    left = x.left ∙ ap (λ (s : Notice). successes_of s.counts m) (sym (notice_stable x.ann x.position x.is_decided));
     last_row = g.path_same (x.linearized.dummy + x.read) (x.linearized.rows x.read within).inside ∙ x.last_row;
     values = x.values ∙ values_stable x.ann x.position n own x.linearized x.read within;
   } where
-    within : x.read ≤ gets (a.memory.notice x.ann).counts (x.position - x.linearized.dummy)
-    within = let s = x.left in let f : gets (a.memory.notice x.ann).counts m ≡ gets (a.memory.notice x.ann).counts (x.position - x.linearized.dummy) = ap (gets (a.memory.notice x.ann).counts) x.queued in omega arith
-  shared_stable (is_reading n own m vs l r) _ x = let R = x.linearized in let f : gets (a.memory.notice x.ann).counts m ≡ gets (a.memory.notice x.ann).counts (x.position - R.dummy) = ap (gets (a.memory.notice x.ann).counts) x.queued in let s = x.left in
+    within : x.read ≤ successes_of (a.memory.notice x.ann).counts (x.position - x.linearized.dummy)
+    within = let s = x.left in let f : successes_of (a.memory.notice x.ann).counts m ≡ successes_of (a.memory.notice x.ann).counts (x.position - x.linearized.dummy) = ap (successes_of (a.memory.notice x.ann).counts) x.queued in omega arith
+  shared_stable (is_reading n own m vs l r) _ x = let R = x.linearized in let f : successes_of (a.memory.notice x.ann).counts m ≡ successes_of (a.memory.notice x.ann).counts (x.position - R.dummy) = ap (successes_of (a.memory.notice x.ann).counts) x.queued in let s = x.left in
       let on = R.rows (suc x.read) (omega arith) in let l = on.inside in record {
         ann = x.ann;
         position = x.position;
@@ -306,7 +307,7 @@ module _ (z : LaneSizes) (Touch : ℕ → Type 0) (a b : World) (g : Rely z Touc
         linearized = linearized_stable x.ann x.position n own x.is_decided R;
         read = x.read;
         queued = x.queued;
-        left = x.left ∙ ap (λ (s : Notice). gets s.counts m) (sym (notice_stable x.ann x.position x.is_decided));
+        left = x.left ∙ ap (λ (s : Notice). successes_of s.counts m) (sym (notice_stable x.ann x.position x.is_decided));
         next_row = g.path_same (suc (R.dummy + x.read)) (omega arith) ∙ x.next_row;
         values = x.values ∙ values_stable x.ann x.position n own R x.read (omega arith);
       }

@@ -16,7 +16,7 @@ use Rattle.core_model.specs.declared.kind.StepKind.{StepKind}
 use Rattle.core_model.specs.declared.kind.StepKind.TheVariants as kind
 use Rattle.core_model.specs.declared.point.Help.{Help}
 use Rattle.core_model.specs.declared.point.Point.TheVariants as point
-use Rattle.core_model.specs.Batches.{gets}
+use Rattle.excess_count.specs.Counts.{successes_of}
 use Rattle.core_model.specs.State.{Caller, own_group, link_in, value_in, old_tail_in}
 use Rattle.core_model.specs.Help.{before_it}
 use Rattle.core_model.specs.Fact.{Fact, reads, tail_over, takes_effect, has_read, is_reading, linearized_is}
@@ -31,7 +31,7 @@ act (LoadValue m r l) = Load (Value r)
 
 abbrev pub after_old_tail : Help → Option Place → Course
 after_old_tail h None = GoesOn (point.Answer (LoadOldTail h))
-after_old_tail h (Some q) = Reads (before_it h q) h.old_head.row (gets h.counts (before_it h q))
+after_old_tail h (Some q) = Reads (before_it h q) h.old_head.row (successes_of h.counts (before_it h q))
 
 -- it found this behind a row, with so many values to go behind the next one
 abbrev pub after_link : ℕ → ℕ → ℕ → LinkWord → AnswerPoint

@@ -1,15 +1,13 @@
--- What a batch says in its announcement, and how its answers are found by counting.
+-- What a batch says in its announcement.
 use Rattle.std.specs.Prelude.{ℕ, ◌+◌, ◌*◌, ◌-◌, ◌/◌, List, length, count_by, nat_lt}
 use Rattle.bq_model.specs.declared.op.Op.{Op}
 use Rattle.bq_model.specs.declared.group.Group.{Group}
-use Rattle.excess_count.specs.declared.counts.Counts.{Counts}
-use Rattle.excess_count.specs.Counts.{successes_of}
-use Rattle.excess_count.specs.Excess.{enqueue_count, dequeue_count, excess_of}
-use Rattle.word_rows.specs.declared.batch_words.BatchCounts.{BatchCounts}
+use Rattle.excess_count.specs.Counts.{counts_of}
+use Rattle.excess_count.specs.Excess.{enqueue_count}
 use Rattle.word_rows.specs.Order.{order_word_of}
 use Rattle.core_model.specs.declared.point.Notice.{Notice}
 use Rattle.core_model.specs.LaneSizes.{LaneSizes}
-use Rattle.core_model.specs.Notices.{place, batch_counts, batch_number}
+use Rattle.core_model.specs.Notices.{place, batch_number}
 
 -- each caller has as many announcements as there are callers
 abbrev pub own_ann : LaneSizes → ℕ → ℕ → ℕ
@@ -18,17 +16,6 @@ own_ann z c i = c * z.callers + i
 abbrev pub owner_of : LaneSizes → ℕ → ℕ
 owner_of z a = a / z.callers
 
--- the counts of operations, as an announcement has them
-abbrev pub counted : List Op → BatchCounts
-counted ops = batch_counts (enqueue_count ops) (dequeue_count ops) (excess_of ops)
-
-abbrev pub tally : BatchCounts → Counts
-tally k = record { enqs = k.enqs; deqs = k.deqs; excess = k.excess }
-
--- how many dequeues of the batch get a value where n are queued
-abbrev pub gets : BatchCounts → ℕ → ℕ
-gets k n = successes_of (tally k) n
-
 -- What caller c says of the operations, as the batch of this number, whose rows are those from the first on. The old
 -- head isn't known yet.
 abbrev pub notice_of : ℕ → ℕ → ℕ → List Op → Notice
@@ -36,7 +23,7 @@ notice_of c batch first ops = record {
   old_head = place 0 0;
   first = first;
   last = first + enqueue_count ops - 1;
-  counts = counted ops;
+  counts = counts_of ops;
   number = batch_number batch c;
   order0 = order_word_of ops 0;
   order1 = order_word_of ops 1;

@@ -20,7 +20,8 @@ use Rattle.core_model.specs.declared.point.Point.TheVariants as point
 use Rattle.core_model.specs.Functions.{run}
 use Rattle.core_model.specs.LaneSizes.{LaneSizes, item, IsItem}
 use Rattle.core_model.specs.Notices.{batch_number}
-use Rattle.core_model.specs.Batches.{own_ann, owner_of, counted, gets}
+use Rattle.excess_count.specs.Counts.{successes_of, counts_of}
+use Rattle.core_model.specs.Batches.{own_ann, owner_of}
 use Rattle.core_model.specs.State.{Caller, Command, command}
 use Rattle.core_model.specs.Fact.{Fact, owns, holds_item, unused_rows, linked, head_seen, tail_seen, tail_past, next_is, by_single, next_value, linearized_is, is_op, answered, since, kept, rests, drafts, fills, enqueues, goes_on, written, head_written, reads, stands_at, before_end, is_old_tail, old_tail_is, tail_over, gets_so_many, walks, takes_effect, has_read, is_reading}
 use Rattle.core_model.specs.Help as helping
@@ -33,7 +34,7 @@ use Rattle.core_model.specs.Kept.{Stands, Kept}
 
 -- The announcement says of a command of caller c what it is.
 pub record Describes (c : ℕ) (m : Command) (n : Notice) : Type 0 where
-  pub counts : n.counts ≡ counted m.ops
+  pub counts : n.counts ≡ counts_of m.ops
   pub number : n.number ≡ batch_number (length m.mine) c
   pub order0 : n.order0 ≡ order_word_of m.ops 0
   pub order1 : n.order1 ≡ order_word_of m.ops 1
@@ -114,15 +115,15 @@ pub record Linearized (z : LaneSizes) (w : World) (a i n : ℕ) (g : Group) : Ty
   pub post : List Group
   pub stands : w.history ≡ (pre ++ g ∷ []) ++ post
   pub since_start : n ≤ length pre
-  pub counts : (w.memory.notice a).counts ≡ counted g.ops
+  pub counts : (w.memory.notice a).counts ≡ counts_of g.ops
   -- the position of the old dummy, and how long the queue was
   pub dummy : ℕ
   pub old_head : (w.memory.notice a).old_head ≡ at z.first w.ghost.path dummy
   pub before : dummy ≤ i
   pub length_queue : length (last_queue pre) ≡ i - dummy
   -- the values that the batch gets are those of the rows behind the old dummy, and they are there
-  pub values : take (gets (w.memory.notice a).counts (i - dummy)) (values_from (last_queue pre) g.ops) ≡ run (λ j. w.memory.value (w.ghost.path j)) (suc dummy) (gets (w.memory.notice a).counts (i - dummy))
-  pub rows : (x : ℕ) → x ≤ gets (w.memory.notice a).counts (i - dummy) → On w (dummy + x) (w.ghost.path (dummy + x))
+  pub values : take (successes_of (w.memory.notice a).counts (i - dummy)) (values_from (last_queue pre) g.ops) ≡ run (λ j. w.memory.value (w.ghost.path j)) (suc dummy) (successes_of (w.memory.notice a).counts (i - dummy))
+  pub rows : (x : ℕ) → x ≤ successes_of (w.memory.notice a).counts (i - dummy) → On w (dummy + x) (w.ghost.path (dummy + x))
 
 -- what caller c, which keeps k, knows at any point of its call, and besides at this one
 abbrev pub call_knows : ℕ → Caller → Point → List Fact
@@ -171,7 +172,7 @@ module _ (z : LaneSizes) (w : World) where
     pub linearized : Linearized z w ann position n g
     pub read : ℕ
     pub queued : m ≡ position - linearized.dummy
-    pub left : read + l ≡ gets (w.memory.notice ann).counts m
+    pub left : read + l ≡ successes_of (w.memory.notice ann).counts m
     pub last_row : w.ghost.path (linearized.dummy + read) ≡ r
     pub values : vs ≡ run (λ j. w.memory.value (w.ghost.path j)) (suc linearized.dummy) read
 
@@ -183,7 +184,7 @@ module _ (z : LaneSizes) (w : World) where
     pub linearized : Linearized z w ann position n g
     pub read : ℕ
     pub queued : m ≡ position - linearized.dummy
-    pub left : read + suc l ≡ gets (w.memory.notice ann).counts m
+    pub left : read + suc l ≡ successes_of (w.memory.notice ann).counts m
     pub next_row : w.ghost.path (suc (linearized.dummy + read)) ≡ r
     pub values : vs ≡ run (λ j. w.memory.value (w.ghost.path j)) (suc linearized.dummy) read
 

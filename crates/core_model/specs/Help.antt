@@ -27,7 +27,7 @@ use Rattle.core_model.specs.declared.point.AnswerPoint.TheVariants as answer
 use Rattle.core_model.specs.declared.point.Point.{Point}
 use Rattle.core_model.specs.declared.point.Point.TheVariants as point
 use Rattle.core_model.specs.Notices.{place, batch_counts, dummy_in, chain_end_in, counts_in}
-use Rattle.core_model.specs.Batches.{gets}
+use Rattle.excess_count.specs.Counts.{successes_of}
 use Rattle.core_model.specs.State.{Command, tail_in, link_in, old_tail_in}
 use Rattle.core_model.specs.Act.{same_place, far_behind, by_one}
 use Rattle.core_model.specs.Fact.{Fact, owns, holds_item, linked, tail_seen, next_is, by_single, linearized_is, is_op, reads, stands_at, before_end, is_old_tail, old_tail_is, tail_over, gets_so_many, walks, takes_effect, batch_facts}
@@ -85,7 +85,7 @@ abbrev pub before_it : Help → Place → ℕ
 before_it h q = q.count - h.old_head.count
 
 abbrev pub walk : Help → Place → HelpPoint
-walk h q = walk_from h q (before_it h q) (gets h.counts (before_it h q))
+walk h q = walk_from h q (before_it h q) (successes_of h.counts (before_it h q))
 
 -- after the help
 abbrev pub back_point : Help → Back → Point

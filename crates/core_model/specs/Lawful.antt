@@ -19,7 +19,8 @@ use Rattle.core_model.specs.declared.point.Point.{Point}
 use Rattle.core_model.specs.declared.point.Point.TheVariants as point
 use Rattle.core_model.specs.Functions.{run}
 use Rattle.core_model.specs.LaneSizes.{LaneSizes, item, IsItem}
-use Rattle.core_model.specs.Batches.{own_ann, owner_of, gets, many_count}
+use Rattle.excess_count.specs.Counts.{successes_of}
+use Rattle.core_model.specs.Batches.{own_ann, owner_of, many_count}
 use Rattle.core_model.specs.State.{Memory, Caller, State, command, own_group}
 use Rattle.core_model.specs.Start.{anns_taken}
 use Rattle.core_model.specs.Ghost.{Stage, unused, waiting, decided, Ghost, World, joint, at}
@@ -96,7 +97,7 @@ pub record Bound (first : ℕ) (path : ℕ → ℕ) (chained : ℕ → Bool) (ca
 -- past the rows
 pub record Standing (head shown tail : ℕ) (notice : Notice) (i : ℕ) : Type 0 where
   pub from : head ≤ i
-  pub shows : shown ≡ gets notice.counts (i - head)
+  pub shows : shown ≡ successes_of notice.counts (i - head)
   pub inside : head + shown ≤ i + notice.counts.enqs
   pub tails : (tail ≡ i) ⊎ (i + notice.counts.enqs ≤ tail)
 

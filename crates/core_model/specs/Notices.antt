@@ -3,10 +3,10 @@ use Rattle.std.specs.Prelude.{ℕ, None}
 use Rattle.word_rows.specs.declared.place.Place.{Place}
 use Rattle.word_rows.specs.declared.head_word.HeadWord.{HeadWord}
 use Rattle.word_rows.specs.declared.head_word.HeadWord.TheVariants.{Node, Ann}
-use Rattle.word_rows.specs.declared.batch_words.BatchCounts.{BatchCounts}
+use Rattle.excess_count.specs.declared.counts.Counts.{Counts}
 use Rattle.word_rows.specs.declared.batch_words.BatchNumber.{BatchNumber}
 use Rattle.word_rows.specs.declared.location.AnnField.{AnnField}
-use Rattle.word_rows.specs.declared.location.AnnField.TheVariants.{OldHead, OldTail, First, Last, Counts, BatchNo, Order0, Order1, Order2, Order3}
+use Rattle.word_rows.specs.declared.location.AnnField.TheVariants as field
 use Rattle.word_rows.specs.declared.content.Content.{Content}
 use Rattle.word_rows.specs.declared.content.Content.TheVariants.{OfHead, OfOldTail, OfChainEnd, OfCounts, OfBatchNo, OfOrder}
 use Rattle.core_model.specs.declared.point.Notice.{Notice}
@@ -14,7 +14,7 @@ use Rattle.core_model.specs.declared.point.Notice.{Notice}
 abbrev pub place : ℕ → ℕ → Place
 place row count = record { row = row; count = count }
 
-abbrev pub batch_counts : ℕ → ℕ → ℕ → BatchCounts
+abbrev pub batch_counts : ℕ → ℕ → ℕ → Counts
 batch_counts enqs deqs excess = record { enqs = enqs; deqs = deqs; excess = excess }
 
 abbrev pub batch_number : ℕ → ℕ → BatchNumber
@@ -22,16 +22,16 @@ batch_number batch caller = record { batch = batch; caller = caller }
 
 -- the word of a field; OldTail isn't known as it is written
 abbrev pub field_in : Notice → AnnField → Content
-field_in n OldHead = OfHead (Node n.old_head)
-field_in n OldTail = OfOldTail None
-field_in n First = OfChainEnd n.first
-field_in n Last = OfChainEnd n.last
-field_in n Counts = OfCounts n.counts
-field_in n BatchNo = OfBatchNo n.number
-field_in n Order0 = OfOrder n.order0
-field_in n Order1 = OfOrder n.order1
-field_in n Order2 = OfOrder n.order2
-field_in n Order3 = OfOrder n.order3
+field_in n field.OldHead = OfHead (Node n.old_head)
+field_in n field.OldTail = OfOldTail None
+field_in n field.First = OfChainEnd n.first
+field_in n field.Last = OfChainEnd n.last
+field_in n field.Counts = OfCounts n.counts
+field_in n field.BatchNo = OfBatchNo n.number
+field_in n field.Order0 = OfOrder n.order0
+field_in n field.Order1 = OfOrder n.order1
+field_in n field.Order2 = OfOrder n.order2
+field_in n field.Order3 = OfOrder n.order3
 
 -- the content as that of such a field; any, where it is of another kind
 abbrev pub dummy_of : HeadWord → Place
@@ -46,7 +46,7 @@ abbrev pub chain_end_in : Content → ℕ
 chain_end_in (OfChainEnd row) = row
 chain_end_in _ = 0
 
-abbrev pub counts_in : Content → BatchCounts
+abbrev pub counts_in : Content → Counts
 counts_in (OfCounts counts) = counts
 counts_in _ = batch_counts 0 0 0
 
@@ -60,16 +60,16 @@ order_in _ = 0
 
 -- what it says after a store into a field
 abbrev pub with_field : Notice → AnnField → Content → Notice
-with_field n OldHead x = record n { old_head = dummy_in x }
-with_field n OldTail x = n
-with_field n First x = record n { first = chain_end_in x }
-with_field n Last x = record n { last = chain_end_in x }
-with_field n Counts x = record n { counts = counts_in x }
-with_field n BatchNo x = record n { number = number_in x }
-with_field n Order0 x = record n { order0 = order_in x }
-with_field n Order1 x = record n { order1 = order_in x }
-with_field n Order2 x = record n { order2 = order_in x }
-with_field n Order3 x = record n { order3 = order_in x }
+with_field n field.OldHead x = record n { old_head = dummy_in x }
+with_field n field.OldTail x = n
+with_field n field.First x = record n { first = chain_end_in x }
+with_field n field.Last x = record n { last = chain_end_in x }
+with_field n field.Counts x = record n { counts = counts_in x }
+with_field n field.BatchNo x = record n { number = number_in x }
+with_field n field.Order0 x = record n { order0 = order_in x }
+with_field n field.Order1 x = record n { order1 = order_in x }
+with_field n field.Order2 x = record n { order2 = order_in x }
+with_field n field.Order3 x = record n { order3 = order_in x }
 
 -- that of an announcement that was never written
 abbrev pub blank : Notice

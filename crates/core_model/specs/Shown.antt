@@ -5,7 +5,7 @@ use Rattle.word_rows.specs.declared.head_word.HeadWord.{HeadWord}
 use Rattle.word_rows.specs.declared.head_word.HeadWord.TheVariants.{Node, Ann}
 use Rattle.word_rows.specs.declared.link_word.LinkWord.{LinkWord}
 use Rattle.word_rows.specs.declared.link_word.LinkWord.TheVariants.{Nil, Single, Chain, Shut}
-use Rattle.core_model.specs.Batches.{gets}
+use Rattle.excess_count.specs.Counts.{successes_of}
 use Rattle.core_model.specs.State.{Memory}
 use Rattle.core_model.specs.Act.{is_unknown}
 
@@ -52,7 +52,7 @@ decided_behind None tail = tail
 abbrev pub shown_head : Memory → HeadWord → ℕ
 shown_head m (Node p) = p.row
 shown_head m (Ann a n) = if is_decided m a
-    then row_behind m (m.notice a).old_head.row (gets (m.notice a).counts ((decided_behind (m.old_tail a) m.tail).count - (m.notice a).old_head.count))
+    then row_behind m (m.notice a).old_head.row (successes_of (m.notice a).counts ((decided_behind (m.old_tail a) m.tail).count - (m.notice a).old_head.count))
     else (m.notice a).old_head.row
 
 -- the words show this queue

@@ -1,6 +1,6 @@
 // A help: it reads the announcement in HEAD, links its chain, records its old tail, and moves TAIL and HEAD over it.
 ghost use Rattle.std.specs.Prelude.{◌≡◌};
-ghost use Rattle.core_model.specs.Batches.{gets};
+ghost use Rattle.excess_count.specs.Counts.{successes_of};
 ghost use Rattle.core_model.specs.Help.{help_of, act, after_old_tail, after_link, after_record, walk_on, before_it, walk, back_point, after_walk, course, kind_of};
 ghost use Rattle.core_model.specs.Ranges.{CountsFit};
 
@@ -12,7 +12,8 @@ use crate::notice::{chain_end_in, counts_in, dummy_in};
 use crate::point::{
     AnswerPoint, Back, BatchPoint, DequeuePoint, EnqueuePoint, Help, HelpPoint, Point,
 };
-use word_rows::{AnnField, BatchCounts, Content, HeadWord, LinkWord, Location, Place};
+use excess_count::Counts;
+use word_rows::{AnnField, Content, HeadWord, LinkWord, Location, Place};
 
 /// The help of an announcement of which nothing is read yet.
 pub fn help_of(ann: u32, back: Back) -> Help
@@ -23,7 +24,7 @@ pub fn help_of(ann: u32, back: Back) -> Help
         old_head: Place { row: 0, count: 0 },
         first: 0,
         last: 0,
-        counts: BatchCounts {
+        counts: Counts {
             enqs: 0,
             deqs: 0,
             excess: 0,
@@ -77,8 +78,8 @@ fn after_record(tail: Place, old_tail: Option<Place>) -> HelpPoint
 }
 
 /// How many values a batch with these counts gets, where so many are queued.
-pub fn gets(counts: BatchCounts, queued: u64) -> u32
-    ensures { result ≡ gets counts queued }
+pub fn gets(counts: Counts, queued: u64) -> u32
+    ensures { result ≡ successes_of counts queued }
 {
     let missing = u64::from(counts.excess).saturating_sub(queued);
     u64::from(counts.deqs).saturating_sub(missing) as u32

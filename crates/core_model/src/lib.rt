@@ -3,7 +3,7 @@
 //! `point` has where a caller stands in its call, nested by call. Each call has a file, `enqueue`, `dequeue`, `batch`, `help` and
 //! `answer`, with the rows of two tables: what the step at a point does with its word (`act`), and where the caller is after
 //! it by what the step found (`step`). `kind` names the kinds of step, `found` reads what a step found, `course` has what
-//! becomes of the command, and `notice` what an announcement says. The laws in `laws` say that each event keeps the lane
+//! becomes of the command, `notice` what an announcement says, and `start` the first step of a command. The laws in `laws` say that each event keeps the lane
 //! lawful, and what a lawful lane promises.
 //!
 //! `specs/` has one notion a file: `State` and `Step` say what the machine is, `Start` how a command begins, `Batches` how a
@@ -23,6 +23,7 @@ mod kind;
 mod laws;
 mod notice;
 mod point;
+mod start;
 mod step;
 
 pub use act::Act;
@@ -42,3 +43,4 @@ pub use point::{
     AnswerPoint, Back, BatchPoint, CallEnd, DequeuePoint, Draft, EnqueuePoint, Help, HelpPoint,
     Item, Notice, Point,
 };
+pub use start::{Stock, anns_taken};

@@ -3,7 +3,8 @@ ghost use Rattle.std.specs.Prelude.{◌≡◌};
 ghost use Rattle.core_model.specs.Notices.{field_in, dummy_of, dummy_in, chain_end_in, counts_in, number_in, order_in, with_field, blank};
 
 use crate::point::Notice;
-use word_rows::{AnnField, BatchCounts, BatchNumber, Content, HeadWord, Place};
+use excess_count::Counts;
+use word_rows::{AnnField, BatchNumber, Content, HeadWord, Place};
 
 impl Notice {
     /// The word of a field, as it is written before the announcement is installed.
@@ -56,12 +57,12 @@ pub fn chain_end_in(found: Content) -> u32
 }
 
 /// What was found in Counts.
-pub fn counts_in(found: Content) -> BatchCounts
+pub fn counts_in(found: Content) -> Counts
     ensures { result ≡ counts_in found }
 {
     match found {
         Content::OfCounts(counts) => counts,
-        _ => BatchCounts {
+        _ => Counts {
             enqs: 0,
             deqs: 0,
             excess: 0,
@@ -101,7 +102,7 @@ impl Notice {
             old_head: Place { row: 0, count: 0 },
             first: 0,
             last: 0,
-            counts: BatchCounts {
+            counts: Counts {
                 enqs: 0,
                 deqs: 0,
                 excess: 0,

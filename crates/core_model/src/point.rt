@@ -1,6 +1,7 @@
 // The points of a call: where its caller is, with its operands and what it has read.
 
-use word_rows::{AnnField, BatchCounts, BatchNumber, Place};
+use excess_count::Counts;
+use word_rows::{AnnField, BatchNumber, Place};
 
 /// The row that an enqueue links, and the value that it has.
 #[derive(Clone, Copy, Debug, PartialEq, Eq, Hash)]
@@ -19,7 +20,7 @@ pub struct Notice {
     /// The last row of its chain.
     pub last: u32,
     /// How many operations there are.
-    pub counts: BatchCounts,
+    pub counts: Counts,
     /// Whose batch it is, and which.
     pub number: BatchNumber,
     /// Which of the operations 0 to 63 are enqueues.
@@ -59,7 +60,7 @@ pub struct Help {
     pub old_head: Place,
     pub first: u32,
     pub last: u32,
-    pub counts: BatchCounts,
+    pub counts: Counts,
     pub back: Back,
 }
 

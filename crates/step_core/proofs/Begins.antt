@@ -27,22 +27,6 @@ command_is most ops is = by (ltb 0 (length ops)) (leb (length ops) most) (leb (l
   by true false c d some fits one many is = absurd (cc is)
   by false b c d some fits one many is = absurd (cc is)
 
--- a batch begins with its first value
-pub many_first : (z : LaneSizes) (c : ℕ) (k : Caller) (ops : List Op) → 1 < length ops → first_point z c k ops ≡ point.Batch (draft_of z c k ops) (batch.StoreValue 0 (item z c k.taken) (get_or (enqueued ops) 0 0))
-many_first z c k [] more = absurd (omega arith)
-many_first z c k (op ∷ []) more = absurd (omega arith)
-many_first z c k (op ∷ next ∷ ops) more = refl
-
-pub one_first : (z : LaneSizes) (c : ℕ) (k : Caller) (ops : List Op) (d : Op) → length ops ≡ 1 → first_point z c k (get_or ops 0 d ∷ []) ≡ first_point z c k ops
-one_first z c k [] d one = absurd (omega arith)
-one_first z c k (op ∷ []) d one = refl
-one_first z c k (op ∷ next ∷ ops) d one = absurd (omega arith)
-
-pub length-enqueued : (ops : List Op) → length (enqueued ops) ≡ enqueue_count ops
-length-enqueued [] = refl
-length-enqueued (Enq v ∷ ops) = ap suc (length-enqueued ops) ∙ (let e = sum_by-cons (λ (op : Op). cond (is_enqueue op) 1 0) (Enq v) ops in omega arith)
-length-enqueued (Deq ∷ ops) = length-enqueued ops
-
 -- a command ends with Full at once exactly where rows or announcements are lacking
 pub start_full : (z : LaneSizes) (s : State) (c : ℕ) (ops : List Op) → Lawful z s → IsCommand ops → (s.callers c).point ≡ Idle
     → (((start z s c ops).callers c).point ≡ Idle) ↔ LacksRows z (mine s.history c) ops

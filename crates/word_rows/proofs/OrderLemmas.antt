@@ -9,7 +9,8 @@ use Rattle.std.proofs.lemmas.Grind.{common_steps}
 use Rattle.std.proofs.Math.ListN.{get_or, drop_of_length-le}
 use Rattle.bq_model.specs.declared.op.Op.{Op}
 use Rattle.bq_model.specs.declared.op.Op.TheVariants.{Enq, Deq}
-use Rattle.word_rows.specs.Order.{is_enqueue, enqueue_bits, order_word_of}
+use Rattle.excess_count.specs.Excess.{is_enqueue}
+use Rattle.word_rows.specs.Order.{enqueue_bits, order_word_of}
 
 abbrev pub weight : Op → ℕ
 weight op = if is_enqueue op then 1 else 0

@@ -8,7 +8,7 @@ use Rattle.word_rows.specs.declared.head_word.HeadWord.TheVariants.{Node, Ann}
 use Rattle.word_rows.specs.declared.link_word.LinkWord.{LinkWord}
 use Rattle.word_rows.specs.declared.link_word.LinkWord.TheVariants.{Nil, Single, Chain, Shut}
 use Rattle.word_rows.specs.declared.marks.Marks.{Marks}
-use Rattle.word_rows.specs.declared.batch_words.BatchCounts.{BatchCounts}
+use Rattle.excess_count.specs.declared.counts.Counts.{Counts}
 use Rattle.word_rows.specs.declared.batch_words.BatchNumber.{BatchNumber}
 use Rattle.word_rows.specs.Packing.{counted_word, place_word, head_word, link_word, bit, marks_word, hazard_word, old_tail_word, counts_word, batch_word}
 use Rattle.word_rows.specs.ReadsBack.{ReadsBack}
@@ -130,7 +130,7 @@ old_tail_word-once (Some p) (Some q) f g e = ap Some (place_word-once p q f g e)
 old_tail_word-once None (Some q) f g e = absurd (omega arith)
 old_tail_word-once (Some p) None f g e = absurd (omega arith)
 
-pub counts_word-once : (a b : BatchCounts) → CountsFit a → CountsFit b → counts_word a ≡ counts_word b → a ≡ b
+pub counts_word-once : (a b : Counts) → CountsFit a → CountsFit b → counts_word a ≡ counts_word b → a ≡ b
 counts_word-once a b f g e =
     let ea = f.0 in
     let da = f.1 in
@@ -139,9 +139,9 @@ counts_word-once a b f g e =
     let enqs : a.enqs ≡ b.enqs = omega arith in
     let deqs : a.deqs ≡ b.deqs = omega arith in
     let excess : a.excess ≡ b.excess = omega arith in
-    ap (λ (x : ℕ). let c : BatchCounts = record { enqs = x; deqs = a.deqs; excess = a.excess } in c) enqs
-    ∙ ap (λ (x : ℕ). let c : BatchCounts = record { enqs = b.enqs; deqs = x; excess = a.excess } in c) deqs
-    ∙ ap (λ (x : ℕ). let c : BatchCounts = record { enqs = b.enqs; deqs = b.deqs; excess = x } in c) excess
+    ap (λ (x : ℕ). let c : Counts = record { enqs = x; deqs = a.deqs; excess = a.excess } in c) enqs
+    ∙ ap (λ (x : ℕ). let c : Counts = record { enqs = b.enqs; deqs = x; excess = a.excess } in c) deqs
+    ∙ ap (λ (x : ℕ). let c : Counts = record { enqs = b.enqs; deqs = b.deqs; excess = x } in c) excess
 
 pub batch_word-once : (a b : BatchNumber) → BatchFits coding_limits a → BatchFits coding_limits b → batch_word a ≡ batch_word b → a ≡ b
 batch_word-once a b f g e =

@@ -6,7 +6,7 @@ use Rattle.word_rows.specs.declared.head_word.HeadWord.{HeadWord}
 use Rattle.word_rows.specs.declared.head_word.HeadWord.TheVariants.{Node, Ann}
 use Rattle.word_rows.specs.declared.link_word.LinkWord.{LinkWord}
 use Rattle.word_rows.specs.declared.link_word.LinkWord.TheVariants.{Nil, Single, Chain, Shut}
-use Rattle.word_rows.specs.declared.batch_words.BatchCounts.{BatchCounts}
+use Rattle.excess_count.specs.declared.counts.Counts.{Counts}
 use Rattle.word_rows.specs.declared.batch_words.BatchNumber.{BatchNumber}
 use Rattle.word_rows.specs.Sizes.{rows_of, anns_of}
 
@@ -50,7 +50,7 @@ abbrev pub OldTailFits : Limits → Option Place → Type 0
 OldTailFits m None = Unit {0}
 OldTailFits m (Some p) = PlaceFits m p
 
-abbrev pub CountsFit : BatchCounts → Type 0
+abbrev pub CountsFit : Counts → Type 0
 CountsFit c = (c.enqs < 2 ^ 16) × (c.deqs < 2 ^ 16) × (c.excess < 2 ^ 16)
 
 abbrev pub BatchFits : Limits → BatchNumber → Type 0

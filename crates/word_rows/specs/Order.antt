@@ -1,11 +1,7 @@
 -- Which operations of a batch are enqueues, one bit for each.
-use Rattle.std.specs.Prelude.{ℕ, ◌+◌, ◌*◌, Bool, true, false, List, [], ◌∷◌, take, drop, if◌then◌else◌}
+use Rattle.std.specs.Prelude.{ℕ, ◌+◌, ◌*◌, List, [], ◌∷◌, take, drop, if◌then◌else◌}
 use Rattle.bq_model.specs.declared.op.Op.{Op}
-use Rattle.bq_model.specs.declared.op.Op.TheVariants.{Enq, Deq}
-
-abbrev pub is_enqueue : Op → Bool
-is_enqueue (Enq v) = true
-is_enqueue Deq = false
+use Rattle.excess_count.specs.Excess.{is_enqueue}
 
 -- a bit for each operation, 1 for an enqueue; that of the first is the lowest
 abbrev pub enqueue_bits : List Op → ℕ

@@ -6,7 +6,7 @@ use Rattle.word_rows.specs.declared.head_word.HeadWord.TheVariants.{Node, Ann}
 use Rattle.word_rows.specs.declared.link_word.LinkWord.{LinkWord}
 use Rattle.word_rows.specs.declared.link_word.LinkWord.TheVariants.{Nil, Single, Chain, Shut}
 use Rattle.word_rows.specs.declared.marks.Marks.{Marks}
-use Rattle.word_rows.specs.declared.batch_words.BatchCounts.{BatchCounts}
+use Rattle.excess_count.specs.declared.counts.Counts.{Counts}
 use Rattle.word_rows.specs.declared.batch_words.BatchNumber.{BatchNumber}
 
 -- a count, the number of a row or announcement, and in the last two bits which of them it is
@@ -47,7 +47,7 @@ abbrev pub old_tail_word : Option Place → ℕ
 old_tail_word None = 3
 old_tail_word (Some p) = place_word p
 
-abbrev pub counts_word : BatchCounts → ℕ
+abbrev pub counts_word : Counts → ℕ
 counts_word c = c.enqs + c.deqs * 2 ^ 16 + c.excess * 2 ^ 32
 
 abbrev pub batch_word : BatchNumber → ℕ

@@ -4,45 +4,34 @@ ghost use Rattle.word_rows.specs.Packing.{counts_word, batch_word};
 ghost use Rattle.word_rows.specs.ReadsBack.{ReadsBack};
 ghost use Rattle.word_rows.specs.Fits.{CountsFit, BatchFits, coding_limits};
 
-/// The counts of a batch.
-#[derive(Clone, Copy, Debug, PartialEq, Eq, Hash)]
-pub struct BatchCounts {
-    /// How many enqueues there are.
-    pub enqs: u32,
-    /// How many dequeues there are.
-    pub deqs: u32,
-    /// By how many the dequeues run ahead of the enqueues at most.
-    pub excess: u32,
-}
+use excess_count::Counts;
 
 /// Each count is below this.
 const COUNTS: u64 = 1 << 16;
 
-impl BatchCounts {
-    /// The counts as a word.
-    pub fn pack(self) -> u64
-        requires { CountsFit self }
-        ensures { result ≡ counts_word self }
-    {
-        u64::from(self.enqs)
-            + u64::from(self.deqs) * COUNTS
-            + u64::from(self.excess) * COUNTS * COUNTS
-    }
+/// The counts of a batch as a word.
+pub fn pack_counts(counts: Counts) -> u64
+    requires { CountsFit counts }
+    ensures { result ≡ counts_word counts }
+{
+    u64::from(counts.enqs)
+        + u64::from(counts.deqs) * COUNTS
+        + u64::from(counts.excess) * COUNTS * COUNTS
+}
 
-    /// The counts that the word is.
-    pub fn unpack(word: u64) -> Option<BatchCounts>
-        ensures { ReadsBack CountsFit counts_word word result }
-    {
-        let excess = word / COUNTS / COUNTS;
-        if excess < COUNTS {
-            Some(BatchCounts {
-                enqs: (word % COUNTS) as u32,
-                deqs: (word / COUNTS % COUNTS) as u32,
-                excess: excess as u32,
-            })
-        } else {
-            None
-        }
+/// The counts that the word is.
+pub fn unpack_counts(word: u64) -> Option<Counts>
+    ensures { ReadsBack CountsFit counts_word word result }
+{
+    let excess = word / COUNTS / COUNTS;
+    if excess < COUNTS {
+        Some(Counts {
+            enqs: (word % COUNTS) as u32,
+            deqs: (word / COUNTS % COUNTS) as u32,
+            excess: excess as u32,
+        })
+    } else {
+        None
     }
 }
 

@@ -4,7 +4,7 @@ ghost use Rattle.word_rows.specs.ReadsBack.{ReadsBack};
 ghost use Rattle.word_rows.specs.Fits.{coding_limits};
 ghost use Rattle.word_rows.specs.Contents.{coded, Fits, CanCodeField, CanCode};
 
-use crate::batch_words::{BatchCounts, BatchNumber};
+use crate::batch_words::{BatchNumber, pack_counts, unpack_counts};
 use crate::hazard::{pack_hazard, unpack_hazard};
 use crate::head_word::HeadWord;
 use crate::link_word::LinkWord;
@@ -13,6 +13,7 @@ use crate::marks::Marks;
 use crate::old_tail::{pack_old_tail, unpack_old_tail};
 use crate::packing::NUMBERS;
 use crate::place::Place;
+use excess_count::Counts;
 
 /// What a word of a lane holds.
 #[derive(Clone, Copy, Debug, PartialEq, Eq, Hash)]
@@ -36,7 +37,7 @@ pub enum Content {
     /// Of First and Last: the number of a row.
     OfChainEnd(u32),
     /// Of Counts.
-    OfCounts(BatchCounts),
+    OfCounts(Counts),
     /// Of BatchNo.
     OfBatchNo(BatchNumber),
     /// Of Order0 to Order3: bit k is set where operation k of the word's 64 is an enqueue.
@@ -59,7 +60,7 @@ impl Content {
             Content::OfAnnHazard(ann) => pack_hazard(ann),
             Content::OfOldTail(place) => pack_old_tail(place),
             Content::OfChainEnd(row) => u64::from(row),
-            Content::OfCounts(counts) => counts.pack(),
+            Content::OfCounts(counts) => pack_counts(counts),
             Content::OfBatchNo(number) => number.pack(),
             Content::OfOrder(bits) => bits,
         }
@@ -90,7 +91,7 @@ fn unpack_field(field: AnnField, word: u64) -> Option<Content>
         AnnField::OldHead => Some(Content::OfHead(HeadWord::unpack(word)?)),
         AnnField::OldTail => Some(Content::OfOldTail(unpack_old_tail(word)?)),
         AnnField::First | AnnField::Last => unpack_chain_end(word),
-        AnnField::Counts => Some(Content::OfCounts(BatchCounts::unpack(word)?)),
+        AnnField::Counts => Some(Content::OfCounts(unpack_counts(word)?)),
         AnnField::BatchNo => Some(Content::OfBatchNo(BatchNumber::unpack(word))),
         AnnField::Order0 | AnnField::Order1 | AnnField::Order2 | AnnField::Order3 => {
             Some(Content::OfOrder(word))

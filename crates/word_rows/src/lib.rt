@@ -26,7 +26,7 @@ mod sizes;
 #[cfg(test)]
 mod tests;
 
-pub use batch_words::{BatchCounts, BatchNumber};
+pub use batch_words::{BatchNumber, pack_counts, unpack_counts};
 pub use content::Content;
 pub use hazard::{pack_hazard, unpack_hazard};
 pub use head_word::HeadWord;

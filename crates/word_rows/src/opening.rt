@@ -6,7 +6,7 @@ ghost use Rattle.word_rows.specs.Layout.{IsValid, index_of};
 ghost use Rattle.word_rows.specs.Contents.{coded, MayHold};
 ghost use Rattle.word_rows.specs.Opening.{opening_of, opening_marks, opening_field};
 
-use crate::batch_words::{BatchCounts, BatchNumber};
+use crate::batch_words::BatchNumber;
 use crate::content::Content;
 use crate::head_word::HeadWord;
 use crate::link_word::LinkWord;
@@ -14,6 +14,7 @@ use crate::location::{AnnField, Location};
 use crate::marks::Marks;
 use crate::place::Place;
 use bq_model::Shape;
+use excess_count::Counts;
 
 /// What the word holds when the lane is made: HEAD and TAIL name row 0, which is in the list, every other row is free,
 /// and no old tail is known.
@@ -67,7 +68,7 @@ fn opening_field(field: AnnField) -> Content
         AnnField::OldHead => Content::OfHead(HeadWord::Node(Place { row: 0, count: 0 })),
         AnnField::OldTail => Content::OfOldTail(None),
         AnnField::First | AnnField::Last => Content::OfChainEnd(0),
-        AnnField::Counts => Content::OfCounts(BatchCounts {
+        AnnField::Counts => Content::OfCounts(Counts {
             enqs: 0,
             deqs: 0,
             excess: 0,

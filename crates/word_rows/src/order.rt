@@ -1,7 +1,8 @@
 // Which operations of a batch are enqueues.
 ghost use Rattle.std.specs.Prelude.{◌≡◌, ◌<◌, ◌≤◌, ◌+◌, ◌*◌, List, length, slice_get, Some, ℕ};
 ghost use Rattle.bq_model.specs.declared.op.Op.{Op};
-ghost use Rattle.word_rows.specs.Order.{order_word_of, enqueue_bits, is_enqueue};
+ghost use Rattle.excess_count.specs.Excess.{is_enqueue};
+ghost use Rattle.word_rows.specs.Order.{order_word_of, enqueue_bits};
 
 use bq_model::Op;
 

@@ -1,9 +1,10 @@
 // Words, indices and homes against values that were worked out by hand.
 use crate::{
-    AnnField, BatchCounts, BatchNumber, Content, HeadWord, LinkWord, Location, Marks, Place,
-    RowKind, home, items, opening_word, order_word, row_kind, rows, stoppers, words,
+    AnnField, BatchNumber, Content, HeadWord, LinkWord, Location, Marks, Place, RowKind, home,
+    items, opening_word, order_word, row_kind, rows, stoppers, words,
 };
 use bq_model::{Op, Shape};
+use excess_count::Counts;
 use std::process::Abort;
 
 #[test]
@@ -30,18 +31,18 @@ fn field(field: AnnField) -> Location {
     Location::AnnWord { ann: 0, field }
 }
 
+/// The marks of a row.
+fn marks(read: bool, passed: bool, free: bool) -> Marks {
+    Marks { read, passed, free }
+}
+
 #[test]
 fn words_are_read_as_worked_out(rt: HostRuntime) {
     let place = Place { row: 5, count: 9 };
     let link = Location::Link { row: 0 };
     let mark = Location::Mark { row: 0 };
     let hazard = Location::NodeHazard { caller: 0 };
-    let free = Marks {
-        read: true,
-        passed: true,
-        free: true,
-    };
-    let counts = BatchCounts {
+    let counts = Counts {
         enqs: 2,
         deqs: 3,
         excess: 2,
@@ -71,7 +72,9 @@ fn words_are_read_as_worked_out(rt: HostRuntime) {
         (link, 20, None),
         (link, 7, None),
         (link, 1048577, None),
-        (mark, 7, Some(Content::OfMark(free))),
+        (mark, 2, Some(Content::OfMark(marks(false, true, false)))),
+        (mark, 4, Some(Content::OfMark(marks(false, false, true)))),
+        (mark, 7, Some(Content::OfMark(marks(true, true, true)))),
         (mark, 8, None),
         (hazard, 0, Some(Content::OfNodeHazard(None))),
         (hazard, 6, Some(Content::OfNodeHazard(Some(5)))),
@@ -148,6 +151,12 @@ fn words_and_rows_of_a_lane_of_two_callers(rt: HostRuntime) {
         (239, Location::NodeHazard { caller: 0 }),
         (242, Location::AnnHazard { caller: 1 }),
         (243, field(AnnField::OldHead)),
+        (244, field(AnnField::OldTail)),
+        (245, field(AnnField::First)),
+        (246, field(AnnField::Last)),
+        (247, field(AnnField::Counts)),
+        (248, field(AnnField::BatchNo)),
+        (249, field(AnnField::Order0)),
         (
             282,
             Location::AnnWord {

@@ -16,15 +16,15 @@ returns-in-BatchNo c =
     let P : AnnField → Type 0 = λ f. ReadsBack (CanCodeField f) coded c.args.word (Some read) in
     subst P (sym c.in-BatchNo.is) (ReadsBack-some (CanCodeField BatchNo) coded c.args.word read (coded-field_once BatchNo) (tt, found.0) found.1)
 
-pub returns-in_ok-unpack-in-Counts : goal.returns-in_ok-unpack-in-Counts
-returns-in_ok-unpack-in-Counts c =
-    let found = (c.in_ok-unpack-in-Counts.ensures c.in_ok-unpack-in-Counts.field-0).0 refl in
-    let read : Content = OfCounts c.in_ok-unpack-in-Counts.field-0 in
+pub returns-in_ok-unpack_counts-in-Counts : goal.returns-in_ok-unpack_counts-in-Counts
+returns-in_ok-unpack_counts-in-Counts c =
+    let found = (c.in_ok-unpack_counts-in-Counts.ensures c.in_ok-unpack_counts-in-Counts.field-0).0 refl in
+    let read : Content = OfCounts c.in_ok-unpack_counts-in-Counts.field-0 in
     let P : AnnField → Type 0 = λ f. ReadsBack (CanCodeField f) coded c.args.word (Some read) in
     subst P (sym c.in-Counts.is) (ReadsBack-some (CanCodeField Counts) coded c.args.word read (coded-field_once Counts) (tt, found.0) found.1)
 
-pub returns-in_err-unpack-in-Counts : goal.returns-in_err-unpack-in-Counts
-returns-in_err-unpack-in-Counts c =
+pub returns-in_err-unpack_counts-in-Counts : goal.returns-in_err-unpack_counts-in-Counts
+returns-in_err-unpack_counts-in-Counts c =
     let P : AnnField → Type 0 = λ f. ReadsBack (CanCodeField f) coded c.args.word None in
     let Q : Option Content → Type 0 = λ found. ReadsBack (CanCodeField c.args.field) coded c.args.word found in
-    subst Q (sym c.from_residual-in_err-unpack-in-Counts.ensures) (subst P (sym c.in-Counts.is) (counts-none c.args.word c.in_err-unpack-in-Counts.ensures))
+    subst Q (sym c.from_residual-in_err-unpack_counts-in-Counts.ensures) (subst P (sym c.in-Counts.is) (counts-none c.args.word c.in_err-unpack_counts-in-Counts.ensures))

@@ -1,7 +1,8 @@
 use Rattle.std.proofs.Common.{rules, ◌<◌, ap, ◌∙◌, length, arith}
 use Rattle.core_model.specs.LaneSizes.{lane_sizes}
-use Rattle.step_core.proofs.Begins.{one_first, length-enqueued}
-use Rattle.step_core.proofs.starts.Stock.first_point.Goals as goal
+use Rattle.core_model.proofs.BatchRows.{length-enqueued}
+use Rattle.core_model.proofs.FirstPoints.{one_first}
+use Rattle.core_model.proofs.start.Stock.first_point.Goals as goal
 
 pub bounds-puts-0 : goal.bounds-puts-0
 bounds-puts-0 c = let some = c.requires.command.0 in let many = c.requires.command.1 (omega arith) in let len = ap length c.requires.puts ∙ length-enqueued c.args.ops.now in let first : 0 < length c.args.puts.now = omega arith in search rules

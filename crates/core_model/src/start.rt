@@ -1,0 +1,118 @@
+// The first step of a command.
+ghost use Rattle.std.specs.Prelude.{◌≡◌, ◌+◌, ◌<◌, ◌≤◌, ◌^◌, List, [], ◌∷◌, length};
+ghost use Rattle.bq_model.specs.declared.op.Op.{Op};
+ghost use Rattle.bq_model.specs.Values.{enqueued};
+ghost use Rattle.excess_count.specs.Counts.{counts_of};
+ghost use Rattle.excess_count.specs.Excess.{enqueue_count};
+ghost use Rattle.word_rows.specs.Sizes.{items_of};
+ghost use Rattle.core_model.specs.Batches.{notice_of};
+ghost use Rattle.core_model.specs.LaneSizes.{lane_sizes};
+ghost use Rattle.core_model.specs.Start.{IsCommand, anns_taken, draft_of, first_point};
+ghost use Rattle.core_model.specs.State.{Caller};
+
+use crate::point::{BatchPoint, DequeuePoint, Draft, EnqueuePoint, Item, Notice, Point};
+use bq_model::{Op, Shape};
+use excess_count::Counts;
+use word_rows::{BatchNumber, Place, item_row, order_word, own_ann};
+
+/// How many announcements a command of so many operations takes.
+pub fn anns_taken(operations: usize) -> u32
+    ensures taken { (ops : List Op) → operations ≡ length ops → result ≡ anns_taken ops }
+    ensures one_at_most { result ≤ 1 }
+{
+    if 1 < operations { 1 } else { 0 }
+}
+
+// What caller says of the operations, as the batch of this number, whose rows are those from the first on.
+fn notice(caller: u32, batch: u64, first: u32, ops: &[Op], counts: Counts) -> Notice
+    requires some { 0 < counts.enqs }
+    requires fits { first + counts.enqs < 2 ^ 32 }
+    requires counts { counts ≡ counts_of ops.now }
+    ensures { result ≡ notice_of caller batch first ops.now }
+{
+    Notice {
+        old_head: Place { row: 0, count: 0 },
+        first,
+        last: first + counts.enqs - 1,
+        counts,
+        number: BatchNumber { batch, caller },
+        order0: order_word(ops, 0),
+        order1: order_word(ops, 1),
+        order2: order_word(ops, 2),
+        order3: order_word(ops, 3),
+    }
+}
+
+/// What a caller took of its stock for its earlier commands.
+#[derive(Clone, Copy)]
+pub struct Stock {
+    /// So many of its rows.
+    pub taken: u32,
+    /// So many of its announcements.
+    pub made: u32,
+    /// The number of the group that it makes next.
+    pub batch: u64,
+}
+
+impl Stock {
+    // The first step of a plain call.
+    fn plain(self, shape: &Shape, caller: u32, op: Op) -> Point
+        requires known { caller < shape.now.callers }
+        requires row { self.taken + enqueue_count (op ∷ []) ≤ items_of shape.now }
+        ensures { (k : Caller) → k.taken ≡ self.taken → result ≡ first_point (lane_sizes shape.now) caller k (op ∷ []) }
+    {
+        match op {
+            Op::Enq(value) => {
+                let row = item_row(shape, caller, self.taken);
+                Point::Enqueue(Item { row, value }, EnqueuePoint::StoreValue)
+            }
+            Op::Deq => Point::Dequeue(DequeuePoint::LoadHead),
+        }
+    }
+
+    // What the announcement of a batch is to say.
+    fn draft(self, shape: &Shape, caller: u32, ops: &[Op], counts: Counts) -> Draft
+        requires known { caller < shape.now.callers }
+        requires rows { self.taken + counts.enqs ≤ items_of shape.now }
+        requires ann { self.made < shape.now.callers }
+        requires some { 0 < counts.enqs }
+        requires counts { counts ≡ counts_of ops.now }
+        ensures { (k : Caller) → k.taken ≡ self.taken → k.made ≡ self.made → length k.mine ≡ self.batch → result ≡ draft_of (lane_sizes shape.now) caller k ops.now }
+    {
+        let first = item_row(shape, caller, self.taken);
+        Draft {
+            ann: own_ann(shape, caller, self.made),
+            notice: notice(caller, self.batch, first, ops, counts),
+        }
+    }
+
+    /// The first step of a command.
+    pub fn first_point(
+        self,
+        shape: &Shape,
+        caller: u32,
+        ops: &[Op],
+        counts: Counts,
+        puts: &[u64],
+    ) -> Point
+        requires known { caller < shape.now.callers }
+        requires command { IsCommand ops.now }
+        requires rows { self.taken + counts.enqs ≤ items_of shape.now }
+        requires anns { self.made + anns_taken ops.now ≤ shape.now.callers }
+        requires counts { counts ≡ counts_of ops.now }
+        requires puts { puts.now ≡ enqueued ops.now }
+        ensures { (k : Caller) → k.taken ≡ self.taken → k.made ≡ self.made → length k.mine ≡ self.batch → result ≡ first_point (lane_sizes shape.now) caller k ops.now }
+    {
+        if ops.len() == 1 {
+            self.plain(shape, caller, ops[0])
+        } else {
+            let draft = self.draft(shape, caller, ops, counts);
+            let first = BatchPoint::StoreValue {
+                number: 0,
+                row: draft.notice.first,
+                value: puts[0],
+            };
+            Point::Batch(draft, first)
+        }
+    }
+}
