@@ -33,6 +33,13 @@ fn spent_batches_stay_pending(rt: HostRuntime) -> Result<(), Fail> {
     let calls = [
         (Call::Enqueue(1), Told::Done),
         (Call::Enqueue(2), Told::Done),
+        (Call::Enqueue(3), Told::Done),
+        (Call::Enqueue(4), Told::Spent),
+    ];
+    plays(&rt, rt.alloc(), (4, 8, 3, 4, 4), &calls, (0, 0))?;
+    let calls = [
+        (Call::Enqueue(1), Told::Done),
+        (Call::Enqueue(2), Told::Done),
         (Call::FutureEnqueue(3), Told::Deferred),
         (Call::FutureDequeue, Told::Deferred),
         (Call::Evaluate(0), Told::Spent),
