@@ -4,3 +4,6 @@ pub mod HistoryLemmas
 pub mod GrammarLemmas
 pub mod JudgingLemmas
 pub mod LegalLemmas
+pub mod PlayLemmas
+pub mod ShapeLemmas
+pub mod PrintLemmas

@@ -6,3 +6,9 @@ pub mod Verdicts
 pub mod Legal
 pub mod Judging
 pub mod Refusals
+pub mod Shapes
+pub mod Kinds
+pub mod Played
+pub mod PlayState
+pub mod ScheduleText
+pub mod Printed

@@ -1,0 +1,8 @@
+use Rattle.std.proofs.Common.{◌≡◌, ◌++◌, [], drop}
+use Rattle.text_lines.specs.Printed.{printed_lines}
+use Rattle.trace_text.specs.Printed.{group_lines}
+use Rattle.trace_text.proofs.print.print_groups.Given as goal
+
+-- the groups that are left are still to be printed
+abbrev pub invariant-loop-group : goal.invariant-loop-group
+invariant-loop-group l = l.text ++ printed_lines (group_lines l.queue (drop l.group-index l.history)) ≡ l.fn.text ++ printed_lines (group_lines [] l.history)

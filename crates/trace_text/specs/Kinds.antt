@@ -1,0 +1,38 @@
+-- The words for the kinds of step.
+use Rattle.std.specs.Prelude.{ℕ, Bool, ◌||◌, List, codes, bytes_eq}
+use Rattle.core_model.specs.declared.kind.StepKind.{StepKind}
+use Rattle.core_model.specs.declared.kind.StepKind.TheVariants as kind
+
+abbrev pub kind_name : StepKind → List ℕ
+kind_name kind.LoadHead = codes "load_head"
+kind_name kind.LoadTail = codes "load_tail"
+kind_name kind.LoadLink = codes "load_link"
+kind_name kind.LoadValue = codes "load_value"
+kind_name kind.StoreValue = codes "store_value"
+kind_name kind.LinkSingle = codes "link_single"
+kind_name kind.MoveTail = codes "move_tail"
+kind_name kind.MoveHead = codes "move_head"
+kind_name kind.StoreChain = codes "store_chain"
+kind_name kind.StoreAnn = codes "store_ann"
+kind_name kind.Install = codes "install"
+kind_name kind.LoadAnn = codes "load_ann"
+kind_name kind.LinkChain = codes "link_chain"
+kind_name kind.RecordTail = codes "record_tail"
+kind_name kind.MoveTailOver = codes "move_tail_over"
+kind_name kind.MoveHeadAnn = codes "move_head_ann"
+
+-- whether a word is one of the kinds of plain calls
+abbrev pub is_plain_kind : List ℕ → Bool
+is_plain_kind word =
+    bytes_eq word (codes "load_head") || bytes_eq word (codes "load_tail") || bytes_eq word (codes "load_link") || bytes_eq word (codes "load_value")
+    || bytes_eq word (codes "store_value") || bytes_eq word (codes "link_single") || bytes_eq word (codes "move_tail") || bytes_eq word (codes "move_head")
+
+-- whether a word is one of those that batches add
+abbrev pub is_batch_kind : List ℕ → Bool
+is_batch_kind word =
+    bytes_eq word (codes "store_chain") || bytes_eq word (codes "store_ann") || bytes_eq word (codes "install") || bytes_eq word (codes "load_ann")
+    || bytes_eq word (codes "link_chain") || bytes_eq word (codes "record_tail") || bytes_eq word (codes "move_tail_over") || bytes_eq word (codes "move_head_ann")
+
+-- whether a word is a kind
+abbrev pub is_kind : List ℕ → Bool
+is_kind word = is_plain_kind word || is_batch_kind word
