@@ -36,13 +36,13 @@ singles (unit ∷ units) h =
 
 -- the numbers of single jobs, from n on
 abbrev pub alone : ℕ → Numbered
-alone i = record { lane = 0; numbers = i ∷ [] }
+alone i = record { place = i; lane = 0; numbers = i ∷ [] }
 
-pub numbered_from-singles : (n : ℕ) (file : List JobUnit) → AllByRecursion IsSingle file → numbered_from n file ≡ map alone (range_with_len n (length file))
+pub numbered_from-singles : (n : ℕ) (file : List JobUnit) → AllByRecursion IsSingle file → numbered_from n n file ≡ map alone (range_with_len n (length file))
 numbered_from-singles n [] h = refl
 numbered_from-singles n (unit ∷ units) h =
-    ap (λ (lane : ℕ). record { lane = lane; numbers = range_with_len n (length unit.jobs) } ∷ numbered_from (n + length unit.jobs) units) h.0.0
-    ∙ ap (λ (k : ℕ). record { lane = 0; numbers = range_with_len n k } ∷ numbered_from (n + k) units) h.0.1
+    ap (λ (lane : ℕ). record { place = n; lane = lane; numbers = range_with_len n (length unit.jobs) } ∷ numbered_from (n + 1) (n + length unit.jobs) units) h.0.0
+    ∙ ap (λ (k : ℕ). record { place = n; lane = 0; numbers = range_with_len n k } ∷ numbered_from (n + 1) (n + k) units) h.0.1
     ∙ ap (λ (us : List Numbered). alone n ∷ us) (numbered_from-singles (n + 1) units h.1)
 
 units_on-alone : (ns : List ℕ) → filter (λ (unit : Numbered). unit.lane == 0) (map alone ns) ≡ map alone ns
