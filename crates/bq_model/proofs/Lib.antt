@@ -1,2 +1,3 @@
 pub mod Histories
-pub mod StoredLemmas
+pub mod Growing
+pub mod Values

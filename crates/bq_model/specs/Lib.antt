@@ -2,13 +2,14 @@
 pub mod Queue
 pub mod Replay
 pub mod History
+pub mod Values
 pub mod Own
 pub mod Proper
+pub mod Grows
+pub mod Rooms
 pub mod Fault
 pub mod Device
 pub mod Limits
-pub mod Stored
-pub mod PlainLane
 pub mod Memory
 pub mod Adapter
 pub mod Bounded

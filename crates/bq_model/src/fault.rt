@@ -79,3 +79,26 @@ pub enum TextRefused {
     #[error("out of memory")]
     Memory,
 }
+
+#[cfg(test)]
+mod tests {
+    use super::*;
+    use std::test::Fail;
+
+    #[test]
+    fn faults_are_told_by_line_and_cause(rt: HostRuntime) -> Result<(), Fail> {
+        let fault = TextFault {
+            line: 103,
+            cause: TextCause::BlockTooLong,
+        };
+        assert_eq!(rt;
+            format!(in rt.alloc(); "{fault}")?.as_str(),
+            "line 103: block too long"
+        );
+        assert_eq!(rt;
+            format!(in rt.alloc(); "{}", TextCause::NotText)?.as_str(),
+            "not text"
+        );
+        Ok(())
+    }
+}

@@ -1,7 +1,8 @@
 ghost use Rattle.std.specs.Prelude.{◌≡◌, []};
 
 use crate::status::Status;
-use bq_model::{Book, Items};
+use bq_model::Items;
+use plain_lane::Book;
 use bulk_dispatcher::{Done, Reply};
 use std::alloc::Global;
 

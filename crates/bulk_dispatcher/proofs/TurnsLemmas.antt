@@ -11,7 +11,7 @@ use Rattle.bq_model.specs.declared.group.Group.{Group}
 use Rattle.bq_model.specs.Queue.{answer_at_queue}
 use Rattle.bq_model.specs.Replay.{answers_from, queue_from}
 use Rattle.bq_model.specs.History.{operations, answers_of, last_queue}
-use Rattle.bq_model.specs.PlainLane.{Lane, after_group}
+use Rattle.plain_lane.specs.PlainLane.{Lane, after_group}
 use Rattle.bq_model.specs.Own.{next_group, callers_of, GotAnswer}
 use Rattle.bq_model.proofs.Histories.{operations-push, last_queue-push, answers_from-append}
 use Rattle.std.proofs.Common.{inl, inr}

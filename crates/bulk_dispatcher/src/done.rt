@@ -1,5 +1,6 @@
 use crate::reply::Reply;
-use bq_model::{Book, Items};
+use bq_model::Items;
+use plain_lane::Book;
 
 /// What a run leaves.
 #[derive(Debug, Drop)]

@@ -4,7 +4,7 @@ ghost use Rattle.std.specs.Prelude.{◌≡◌, true, ℕ, ◌+◌, ◌*◌, ◌<
 ghost use Rattle.std.specs.List.{flat_map};
 ghost use Rattle.bq_model.specs.History.{operations, last_queue};
 ghost use Rattle.bq_model.specs.Queue.{answer_at_queue};
-ghost use Rattle.bq_model.specs.PlainLane.{after_group, PassesRoom, PassesAllowance};
+ghost use Rattle.plain_lane.specs.PlainLane.{after_group, PassesRoom, PassesAllowance};
 ghost use Rattle.job_text.specs.JobFile.{job_count};
 ghost use Rattle.job_text.specs.Replies.{reply_line, replies_of};
 ghost use Rattle.bulk_dispatcher.specs.Books.{BooksFit};
@@ -15,9 +15,10 @@ ghost use Rattle.bulk_dispatcher.specs.Turns.{after_turn, turns, turn_replies, I
 use crate::done::Done;
 use crate::gate::Gate;
 use crate::reply::Reply;
-use bq_model::{Answer, Items, Op, OutOfMemory, PlainLane, Shape};
+use bq_model::{Answer, Items, Op, OutOfMemory, Shape};
 use job_text::JobFile;
 use job_work::answer;
+use plain_lane::PlainLane;
 use std::alloc::Global;
 use std::thread::Threads;
 

@@ -4,6 +4,7 @@ use Rattle.bq_model.specs.declared.op.Op.{Op}
 use Rattle.bq_model.specs.declared.op.Op.TheVariants.{Enq, Deq}
 use Rattle.bq_model.specs.declared.op.Answer.{Answer}
 use Rattle.bq_model.specs.declared.op.Answer.TheVariants.{Done, Got, Empty}
+pub use Rattle.bq_model.specs.Values.{enqueued}
 
 abbrev pub is_got : Answer → Bool
 is_got Done = false
@@ -13,12 +14,6 @@ is_got Empty = false
 -- how many of the answers are values
 abbrev pub got_count : List Answer → ℕ
 got_count answers = count_by is_got answers
-
--- the values that the operations enqueue, in order
-abbrev pub enqueued : List Op → List ℕ
-enqueued [] = []
-enqueued (Enq v ∷ ops) = v ∷ enqueued ops
-enqueued (Deq ∷ ops) = enqueued ops
 
 -- the values of the queue, and behind them those that the operations enqueue
 abbrev pub values_from : List ℕ → List Op → List ℕ

@@ -3,14 +3,12 @@
 ghost use Rattle.std.specs.Prelude.{◌≡◌, ◌↔◌, ◌+◌, [], ◌∷◌, IsTrue, IfOk, IsErrOf, OnOk, OnErr};
 ghost use Rattle.bq_model.specs.Queue.{answer_at_queue};
 ghost use Rattle.bq_model.specs.History.{last_queue};
-ghost use Rattle.bq_model.specs.PlainLane.{after_group, PassesAllowance, PassesRoom};
+ghost use Rattle.plain_lane.specs.PlainLane.{after_group, PassesAllowance, PassesRoom};
 ghost use Rattle.bq_model.specs.Proper.{IsProper};
 
 use crate::book::Book;
-use crate::error::{OutOfMemory, Refusal};
-use crate::op::{Answer, Op};
-use crate::shape::Shape;
 use crate::stored::Stored;
+use bq_model::{Answer, Op, OutOfMemory, Refusal, Shape};
 use std::alloc::Global;
 use std::collections::VecDeque;
 use std::marker::Model;
@@ -29,8 +27,8 @@ impl Model for PlainLane {
     ghost use Rattle.std.specs.Vec.{vec_len, vec_capacity};
     ghost use Rattle.std.specs.VecDeque.{deque_len, deque_capacity};
     ghost use Rattle.bq_model.specs.History.{last_queue};
-    ghost use Rattle.bq_model.specs.Stored.{groups_of, IsWhole};
-    ghost use Rattle.bq_model.specs.PlainLane.{Lane};
+    ghost use Rattle.plain_lane.specs.Stored.{groups_of, IsWhole};
+    ghost use Rattle.plain_lane.specs.PlainLane.{Lane};
 
     ghost Value = { Lane };
 

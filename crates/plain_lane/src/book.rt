@@ -11,7 +11,7 @@ pub struct Book {
 impl Model for Book {
     ghost use Rattle.std.specs.Prelude.{List};
     ghost use Rattle.bq_model.specs.declared.group.Group.{Group};
-    ghost use Rattle.bq_model.specs.Stored.{groups_of};
+    ghost use Rattle.plain_lane.specs.Stored.{groups_of};
 
     ghost Value = { List Group };
 
@@ -20,7 +20,7 @@ impl Model for Book {
 
 impl Book {
     ghost use Rattle.std.specs.Prelude.{◌≡◌};
-    ghost use Rattle.bq_model.specs.Stored.{groups_of};
+    ghost use Rattle.plain_lane.specs.Stored.{groups_of};
 
     /// The book of a stored history.
     pub(crate) fn new(stored: Vec<Stored>) -> Book

@@ -1,8 +1,8 @@
 use Rattle.std.proofs.Common.{[], ◌∷◌, ap, ◌∙◌, arith}
 use Rattle.bq_model.specs.declared.op.Op.TheVariants.{Enq}
-use Rattle.bq_model.specs.PlainLane.{Lane, after_group}
-use Rattle.bq_model.proofs.StoredLemmas.{room_left, lane_of-push, queue-push, IsWhole-push}
-use Rattle.bq_model.proofs.plain_lane.PlainLane.enqueue.Goals as goal
+use Rattle.plain_lane.specs.PlainLane.{Lane, after_group}
+use Rattle.plain_lane.proofs.StoredLemmas.{room_left, lane_of-push, queue-push, IsWhole-push}
+use Rattle.plain_lane.proofs.plain_lane.PlainLane.enqueue.Goals as goal
 
 pub push_reserved-requires : goal.push_reserved-requires
 push_reserved-requires c =

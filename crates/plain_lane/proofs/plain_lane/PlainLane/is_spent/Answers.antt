@@ -1,7 +1,7 @@
 use Rattle.std.proofs.Common.{arith}
 use Rattle.std.proofs.lemmas.Bool.Decides.{nat_tests}
-use Rattle.bq_model.proofs.StoredLemmas.{length-operations}
-use Rattle.bq_model.proofs.plain_lane.PlainLane.is_spent.Goals as goal
+use Rattle.plain_lane.proofs.StoredLemmas.{length-operations}
+use Rattle.plain_lane.proofs.plain_lane.PlainLane.is_spent.Goals as goal
 
 pub returns : goal.returns
 returns c =

@@ -2,7 +2,7 @@
 use Rattle.std.specs.Prelude.{◌≡◌, ℕ, ◌+◌, if◌then◌else◌, List, [], ◌∷◌, ◌++◌}
 use Rattle.bq_model.specs.declared.op.Op.{Op}
 use Rattle.bq_model.specs.declared.group.Group.{Group}
-use Rattle.bq_model.specs.declared.stored.Stored.{Stored}
+use Rattle.plain_lane.specs.declared.stored.Stored.{Stored}
 
 -- a group of caller 0
 abbrev pub group : ℕ → List Op → Group

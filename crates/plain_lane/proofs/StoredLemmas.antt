@@ -5,16 +5,16 @@ use Rattle.std.proofs.lemmas.List.Elements.{All-from_recursion}
 use Rattle.std.specs.List.{range_with_len, AllByRecursion}
 use Rattle.bq_model.specs.declared.op.Op.{Op}
 use Rattle.bq_model.specs.declared.group.Group.{Group}
-use Rattle.bq_model.specs.declared.stored.Stored.{Stored}
+use Rattle.plain_lane.specs.declared.stored.Stored.{Stored}
 use Rattle.bq_model.specs.History.{operations, last_queue}
 use Rattle.bq_model.specs.Replay.{queue_from}
 use Rattle.bq_model.specs.Queue.{queue_after}
 use Rattle.bq_model.specs.declared.op.Op.TheVariants.{Deq}
 use Rattle.std.proofs.lemmas.Bool.Decides.{nat_tests}
-use Rattle.bq_model.specs.PlainLane.{Lane, after_group, PassesAllowance}
+use Rattle.plain_lane.specs.PlainLane.{Lane, after_group, PassesAllowance}
 use Rattle.bq_model.specs.Own.{mine, next_group}
 use Rattle.bq_model.specs.Proper.{IsProper}
-use Rattle.bq_model.specs.Stored.{group, groups_from, groups_of, open_from, IsWhole}
+use Rattle.plain_lane.specs.Stored.{group, groups_from, groups_of, open_from, IsWhole}
 use Rattle.bq_model.proofs.Histories.{last_queue-push}
 
 -- an operation that ends its group

@@ -1,4 +1,4 @@
-use crate::op::Op;
+use bq_model::Op;
 
 /// One operation of a stored history.
 #[derive(Clone, Copy, Debug)]

@@ -1,0 +1,11 @@
+-- When a lane refuses operations of a caller.
+use Rattle.std.specs.Prelude.{ℕ, ◌+◌, ◌<◌, List, length}
+use Rattle.bq_model.specs.declared.op.Op.{Op}
+use Rattle.bq_model.specs.declared.group.Group.{Group}
+use Rattle.bq_model.specs.declared.shape.Shape.{Shape}
+use Rattle.bq_model.specs.History.{operations}
+use Rattle.bq_model.specs.Own.{mine}
+
+-- with these operations caller c passes the lane's allowance
+abbrev pub PassesAllowance : Shape → List Group → ℕ → List Op → Type 0
+PassesAllowance shape seen c ops = shape.allowance < length (operations (mine seen c)) + length ops

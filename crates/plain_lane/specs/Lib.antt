@@ -1,0 +1,3 @@
+-- A lane of one caller.
+pub mod Stored
+pub mod PlainLane
