@@ -7,7 +7,7 @@ use Rattle.bq_model.specs.Own.{mine}
 use Rattle.job_text.specs.declared.file.Unit.{Unit as JobUnit}
 use Rattle.bulk_dispatcher.specs.declared.reply.Reply.{Reply}
 use Rattle.bulk_dispatcher.specs.Books.{Numbered, lanes_of}
-use Rattle.bulk_dispatcher.specs.Grew.{SawMore}
+use Rattle.bq_model.specs.Grows.{SawMore}
 use Rattle.bulk_dispatcher.specs.Hands.{units_of, replies_on, reply_for, HandDid, HandDone}
 use Rattle.bulk_dispatcher.proofs.Later.{HandDid-later}
 use Rattle.bulk_dispatcher.proofs.Steps.{caught-saw_more}

@@ -12,19 +12,20 @@ use Rattle.bq_model.specs.declared.group.Group.{Group}
 use Rattle.bq_model.specs.History.{operations}
 use Rattle.bq_model.specs.Own.{mine}
 use Rattle.job_text.specs.declared.file.Unit.{Unit as JobUnit}
-use Rattle.bulk_dispatcher.specs.Books.{Numbered, units_on, jobs_on, values_enqueued, StandTogether}
+use Rattle.bulk_dispatcher.specs.Books.{Numbered, units_on, jobs_on, StandTogether}
 use Rattle.bulk_dispatcher.specs.Hands.{units_of, HandDid}
 use Rattle.bulk_dispatcher.proofs.Parts.{part, IsPermutation-parts, AllByRecursion-parts, flat_map-agree_within, of_part}
+use Rattle.bq_model.specs.Values.{enqueued}
 
-pub values_enqueued-append : (xs ys : List Op) → values_enqueued (xs ++ ys) ≡ values_enqueued xs ++ values_enqueued ys
-values_enqueued-append [] ys = refl
-values_enqueued-append (Enq v ∷ xs) ys = ap (λ vs. v ∷ vs) (values_enqueued-append xs ys)
-values_enqueued-append (Deq ∷ xs) ys = values_enqueued-append xs ys
+pub enqueued-append : (xs ys : List Op) → enqueued (xs ++ ys) ≡ enqueued xs ++ enqueued ys
+enqueued-append [] ys = refl
+enqueued-append (Enq v ∷ xs) ys = ap (λ vs. v ∷ vs) (enqueued-append xs ys)
+enqueued-append (Deq ∷ xs) ys = enqueued-append xs ys
 
 -- group by group
-pub values_by_group : (h : List Group) → values_enqueued (operations h) ≡ flat_map (λ g. values_enqueued g.ops) h
+pub values_by_group : (h : List Group) → enqueued (operations h) ≡ flat_map (λ g. enqueued g.ops) h
 values_by_group [] = refl
-values_by_group (g ∷ h) = values_enqueued-append g.ops (operations h) ∙ ap (λ vs. values_enqueued g.ops ++ vs) (values_by_group h)
+values_by_group (g ∷ h) = enqueued-append g.ops (operations h) ∙ ap (λ vs. enqueued g.ops ++ vs) (values_by_group h)
 
 -- where main made no group, all are of hands
 pub of_hands : (hands : ℕ) (h : List Group) → AllByRecursion (λ g. g.caller < hands + 1) h → mine h hands ≡ [] → AllByRecursion (λ g. g.caller < hands) h
@@ -51,12 +52,12 @@ all_dealt hands (unit ∷ units) pos = (mod_below unit.place hands pos, all_deal
 
 -- each hand's units, and what it enqueued, hand by hand
 pub each_once : (file : List JobUnit) (hands lane batch : ℕ) (h : List Group) → 0 < hands → All (λ g. g.caller < hands + 1) h → mine h hands ≡ []
-    → ((c : ℕ) → c < hands → HandDid (units_of file hands lane c) batch c h) → IsPermutation (jobs_on file lane) (values_enqueued (operations h))
+    → ((c : ℕ) → c < hands → HandDid (units_of file hands lane c) batch c h) → IsPermutation (jobs_on file lane) (enqueued (operations h))
 each_once file hands lane batch h pos known idle did =
-    let groups = IsPermutation-parts (λ (g : Group). g.caller) (λ (g : Group). values_enqueued g.ops) hands h (of_hands hands h (recursion_from_All _ h known) idle) in
+    let groups = IsPermutation-parts (λ (g : Group). g.caller) (λ (g : Group). enqueued g.ops) hands h (of_hands hands h (recursion_from_All _ h known) idle) in
     let units = IsPermutation-parts (hand_of hands) (λ (unit : Numbered). unit.numbers) hands (units_on file lane) (all_dealt hands (units_on file lane) pos) in
     let same : flat_map (λ k. flat_map (λ (unit : Numbered). unit.numbers) (part (hand_of hands) (units_on file lane) k)) (range_with_len 0 hands)
-    ≡ flat_map (λ k. flat_map (λ (g : Group). values_enqueued g.ops) (part (λ (g : Group). g.caller) h k)) (range_with_len 0 hands) =
+    ≡ flat_map (λ k. flat_map (λ (g : Group). enqueued g.ops) (part (λ (g : Group). g.caller) h k)) (range_with_len 0 hands) =
     flat_map-agree_within _ _ 0 hands (λ c _ l. sym ((did c (let m = l in omega arith)).put) ∙ values_by_group (mine h c)) in
     subst (λ vs. IsPermutation (jobs_on file lane) vs) (sym (values_by_group h))
     (IsPermutation-trans _ _ _ (subst (λ vs. IsPermutation (jobs_on file lane) vs) same (IsPermutation-sym _ _ units)) groups)

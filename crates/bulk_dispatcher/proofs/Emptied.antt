@@ -1,17 +1,15 @@
 -- Where each caller's last group found nothing, the history leaves nothing.
 use Rattle.std.proofs.Common.{◌≡◌, ℕ, ◌+◌, ◌<◌, ◌==◌, true, cond, List, [], ◌∷◌, ◌++◌, refl, sym, ap, subst, ◌∙◌, arith, eq-eqb, append_assoc, All, inl, inr}
 use Rattle.std.specs.List.{AllByRecursion}
-use Rattle.std.proofs.lemmas.List.Elements.{filter-append, recursion_from_All}
+use Rattle.std.proofs.lemmas.List.Elements.{recursion_from_All}
 use Rattle.std.proofs.lemmas.Bool.{cases_lt}
 use Rattle.bq_model.specs.declared.group.Group.{Group}
 use Rattle.bq_model.specs.History.{last_queue}
 use Rattle.bq_model.specs.Own.{mine}
 use Rattle.bq_model.proofs.Histories.{last_queue-push}
+use Rattle.bq_model.proofs.Growing.{mine-append}
 use Rattle.bulk_dispatcher.specs.Hands.{EndedEmpty}
 use Rattle.bulk_dispatcher.proofs.Fifo.{nothing_after_empty}
-
-pub mine-append : (h more : List Group) (c : ℕ) → mine (h ++ more) c ≡ mine h c ++ mine more c
-mine-append h more c = filter-append (λ g. g.caller == c) h more
 
 not_nil : {X : Type 0} (xs ys : List X) (x : X) → xs ++ x ∷ ys ≡ [] → ⊥
 not_nil [] ys x e = cc e

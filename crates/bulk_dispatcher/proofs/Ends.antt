@@ -9,7 +9,7 @@ use Rattle.job_text.specs.declared.file.Unit.{Unit as JobUnit}
 use Rattle.bulk_dispatcher.specs.declared.reply.Reply.{Reply}
 use Rattle.bulk_dispatcher.specs.Books.{BooksFit}
 use Rattle.bulk_dispatcher.specs.Replies.{RepliesFit}
-use Rattle.bulk_dispatcher.specs.Grew.{SawMore}
+use Rattle.bq_model.specs.Grows.{SawMore}
 use Rattle.bulk_dispatcher.specs.Hands.{HandDone, AllDone, Run, HandsRan, LanesClosed}
 use Rattle.bulk_dispatcher.proofs.Fit.{BooksFit-done}
 use Rattle.bulk_dispatcher.proofs.Sorted.{RepliesFit-done}

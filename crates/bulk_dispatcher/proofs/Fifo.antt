@@ -1,33 +1,21 @@
 -- What went into a queue comes out in order: what was got and what is left are what there was and what was enqueued.
-use Rattle.std.proofs.Common.{◌≡◌, ℕ, List, [], ◌∷◌, ◌++◌, refl, sym, ap, ◌∙◌, append_assoc}
+use Rattle.std.proofs.Common.{◌≡◌, ℕ, List, [], ◌∷◌, ◌++◌, refl, sym, ap, ◌∙◌}
 use Rattle.std.proofs.lemmas.List.{append-nil}
 use Rattle.bq_model.specs.declared.op.Op.{Op}
 use Rattle.bq_model.specs.declared.op.Op.TheVariants.{Enq, Deq}
 use Rattle.bq_model.specs.declared.op.Answer.{Answer}
-use Rattle.bq_model.specs.declared.op.Answer.TheVariants.{Done, Got, Empty}
+use Rattle.bq_model.specs.declared.op.Answer.TheVariants.{Empty}
 use Rattle.bq_model.specs.declared.group.Group.{Group}
 use Rattle.bq_model.specs.Queue.{queue_after}
 use Rattle.bq_model.specs.Replay.{answers_from, queue_from}
 use Rattle.bq_model.specs.History.{operations, answers_of, last_queue}
-use Rattle.bulk_dispatcher.specs.Books.{values_enqueued}
-
--- the values that answers got, in order
-abbrev pub values_got : List Answer → List ℕ
-values_got [] = []
-values_got (Done ∷ answers) = values_got answers
-values_got (Got v ∷ answers) = v ∷ values_got answers
-values_got (Empty ∷ answers) = values_got answers
-
-pub got_and_left : (q : List ℕ) (ops : List Op) → values_got (answers_from q ops) ++ queue_from q ops ≡ q ++ values_enqueued ops
-got_and_left q [] = sym (append-nil q)
-got_and_left q (Enq v ∷ ops) = got_and_left (q ++ v ∷ []) ops ∙ append_assoc q (v ∷ []) (values_enqueued ops)
-got_and_left [] (Deq ∷ ops) = got_and_left [] ops
-got_and_left (v ∷ q) (Deq ∷ ops) = ap (λ vs. v ∷ vs) (got_and_left q ops)
+use Rattle.bq_model.specs.Values.{enqueued, got}
+use Rattle.bq_model.proofs.Values.{in_and_out}
 
 -- Where nothing is left, each value that was enqueued was got, in that order.
-pub got_is_enqueued : (h : List Group) → last_queue h ≡ [] → values_got (answers_of h) ≡ values_enqueued (operations h)
+pub got_is_enqueued : (h : List Group) → last_queue h ≡ [] → got (answers_of h) ≡ enqueued (operations h)
 got_is_enqueued h e =
-    sym (append-nil (values_got (answers_of h))) ∙ ap (λ q. values_got (answers_of h) ++ q) (sym e) ∙ got_and_left [] (operations h)
+    sym (append-nil (got (answers_of h))) ∙ ap (λ q. got (answers_of h) ++ q) (sym e) ∙ in_and_out [] (operations h)
 
 -- A dequeue that found nothing leaves nothing.
 pub nothing_after_empty : (q : List ℕ) (ops : List Op) (found : List Answer) → answers_from q ops ≡ found ++ Empty ∷ [] → queue_from q ops ≡ []

@@ -2,8 +2,8 @@
 use Rattle.std.proofs.Common.{◌≡◌, ◌<◌, suc, map, get_or, ℕ, ◌+◌, List, [], ◌∷◌, ◌++◌, length, sym, subst, arith, add-zero, zero-add}
 use Rattle.std.specs.List.{AllZip, AllByRecursion, range_with_len}
 use Rattle.bq_model.specs.declared.group.Group.{Group}
-use Rattle.bulk_dispatcher.specs.Grew.{SawMore}
-use Rattle.bulk_dispatcher.proofs.Steps.{SawMore-trans}
+use Rattle.bq_model.specs.Grows.{SawMore}
+use Rattle.bq_model.proofs.Growing.{SawMore-trans}
 
 zip_with_all : {A B : Type 0} (P : A → Type 0) (R Q : A → B → Type 0) → ((x : A) (y : B) → P x → R x y → Q x y) → (xs : List A) (ys : List B) → AllByRecursion P xs → AllZip R xs ys → AllZip Q xs ys
 zip_with_all P R Q f [] [] p h = tt

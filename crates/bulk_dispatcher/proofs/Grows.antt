@@ -11,11 +11,9 @@ use Rattle.bq_model.specs.Replay.{answers_from, queue_from}
 use Rattle.bq_model.specs.History.{operations, answers_of, last_queue}
 use Rattle.bq_model.specs.Own.{mine, callers_of}
 use Rattle.bq_model.proofs.Histories.{answers_from-append}
+use Rattle.bq_model.proofs.Growing.{operations-append}
 use Rattle.bulk_dispatcher.specs.Hands.{given, answers_to, caught_from, caught}
 use Rattle.bulk_dispatcher.proofs.Catches.{length-answers_from, as_many}
-
-pub operations-append : (h more : List Group) → operations (h ++ more) ≡ operations h ++ operations more
-operations-append h more = flat_map-append (λ (g : Group). g.ops) h more
 
 pub callers_of-append : (h more : List Group) → callers_of (h ++ more) ≡ callers_of h ++ callers_of more
 callers_of-append h more = flat_map-append (λ (g : Group). replicate (length g.ops) g.caller) h more

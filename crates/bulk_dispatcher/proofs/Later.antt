@@ -1,19 +1,12 @@
 -- What a hand did on a lane stays what it did where the history grows by groups of others.
-use Rattle.std.proofs.Common.{◌≡◌, ℕ, List, [], ◌∷◌, ◌++◌, sym, ap, subst, ◌∙◌, append_assoc, All}
+use Rattle.std.proofs.Common.{◌≡◌, ℕ, List, ◌∷◌, ◌++◌, sym, ap, subst, ◌∙◌, append_assoc, All}
 use Rattle.bq_model.specs.declared.group.Group.{Group}
 use Rattle.bq_model.specs.Own.{mine}
-use Rattle.bulk_dispatcher.specs.Books.{Numbered, StandTogether, values_enqueued}
+use Rattle.bulk_dispatcher.specs.Books.{Numbered, StandTogether}
 use Rattle.bq_model.specs.History.{operations}
 use Rattle.bulk_dispatcher.specs.Hands.{EndedEmpty, HandDid}
-use Rattle.bulk_dispatcher.proofs.Emptied.{mine-append}
-
-pub nothing_added : {X : Type 0} (xs ys : List X) → xs ++ ys ≡ xs → ys ≡ []
-nothing_added [] ys e = e
-nothing_added (x ∷ xs) ys e = nothing_added xs ys (cc e)
-
--- the groups that came later are of others
-pub others_later : (h more : List Group) (c : ℕ) → mine (h ++ more) c ≡ mine h c → mine more c ≡ []
-others_later h more c e = nothing_added (mine h c) (mine more c) (sym (mine-append h more c) ∙ e)
+use Rattle.bq_model.proofs.Growing.{mine-append, others_later}
+use Rattle.bq_model.specs.Values.{enqueued}
 
 pub EndedEmpty-later : (batch c : ℕ) (h more : List Group) → mine (h ++ more) c ≡ mine h c → EndedEmpty batch c h → EndedEmpty batch c (h ++ more)
 EndedEmpty-later batch c h more e d = record {
@@ -30,7 +23,7 @@ EndedEmpty-later batch c h more e d = record {
 
 pub HandDid-later : (units : List Numbered) (batch c : ℕ) (h more : List Group) → mine (h ++ more) c ≡ mine h c → HandDid units batch c h → HandDid units batch c (h ++ more)
 HandDid-later units batch c h more e d = record {
-  put = ap (λ gs. values_enqueued (operations gs)) e ∙ d.put;
+  put = ap (λ gs. enqueued (operations gs)) e ∙ d.put;
   together = subst (λ gs. All (λ (unit : Numbered). StandTogether gs unit.numbers) units) (sym e) d.together;
   ended = EndedEmpty-later batch c h more e d.ended;
 }

@@ -1,5 +1,5 @@
 -- One call of a hand, and what it did so far.
-use Rattle.std.proofs.Common.{◌≡◌, ℕ, zero, suc, ◌+◌, ◌⊎◌, cond, List, [], ◌∷◌, ◌++◌, length, map, replicate, ◌/◌, refl, sym, ap, subst, ◌∙◌, arith, ne_eqb, eq-eqb, append_assoc, length-append, add-zero, zero-add, All, Contains, inl, inr}
+use Rattle.std.proofs.Common.{◌≡◌, ℕ, zero, suc, ◌+◌, ◌⊎◌, cond, List, [], ◌∷◌, ◌++◌, length, map, replicate, ◌/◌, refl, sym, ap, subst, ◌∙◌, arith, ne_eqb, length-append, add-zero, zero-add, All, Contains, inl, inr}
 use Rattle.std.specs.List.{flat_map}
 use Rattle.std.proofs.lemmas.Bool.{cases_eq}
 use Rattle.std.proofs.lemmas.Grind.{flat_map-append}
@@ -14,34 +14,15 @@ use Rattle.bq_model.specs.Replay.{answers_from, queue_from}
 use Rattle.bq_model.specs.History.{operations, last_queue}
 use Rattle.bq_model.specs.Own.{mine, next_group}
 use Rattle.bq_model.proofs.Histories.{operations-push}
-use Rattle.bulk_dispatcher.specs.Books.{Numbered, values_enqueued, StandTogether}
+use Rattle.bulk_dispatcher.specs.Books.{Numbered, StandTogether}
 use Rattle.bulk_dispatcher.specs.Hands.{answers_to, caught_from, caught, EndedEmpty, HandPut, HandDid}
-use Rattle.bulk_dispatcher.specs.Grew.{Grew, SawMore, unit_ops}
-use Rattle.bulk_dispatcher.proofs.Emptied.{mine-append}
-use Rattle.bulk_dispatcher.proofs.Later.{others_later}
-use Rattle.bulk_dispatcher.proofs.EachOnce.{values_enqueued-append}
+use Rattle.bq_model.specs.Grows.{Grew, SawMore}
+use Rattle.bulk_dispatcher.specs.UnitOps.{unit_ops}
+use Rattle.bq_model.proofs.Growing.{mine-own, others_later, others_around}
+use Rattle.bulk_dispatcher.proofs.EachOnce.{enqueued-append}
 use Rattle.bulk_dispatcher.proofs.Catches.{length-answers_from}
 use Rattle.bulk_dispatcher.proofs.Grows.{answers_in, answers_to-append, answers_in-own, answers_in-other, answers_in-none, caught-later}
-
--- caller c's group, and the others around it
-mine_own : (g : Group) (c : ℕ) (h : List Group) → g.caller ≡ c → mine (g ∷ h) c ≡ g ∷ mine h c
-mine_own g c h e = ap (λ b. cond b (g ∷ mine h c) (mine h c)) (eq-eqb g.caller c e)
-
-not_one : (ys zs : List Group) (x : Group) → ys ++ x ∷ zs ≡ [] → ⊥
-not_one [] zs x e = cc e
-not_one (y ∷ ys) zs x e = cc e
-
-split : (xs ys zs : List Group) (x : Group) → (xs ++ ys) ++ x ∷ zs ≡ xs ++ x ∷ [] → (ys ≡ []) × (zs ≡ [])
-split [] [] zs x e = (refl, cc e)
-split [] (y ∷ ys) zs x e = absurd (not_one ys zs x (cc e))
-split (z ∷ xs) ys zs x e = split xs ys zs x (cc e)
-
-pub others_around : (c : ℕ) (ops : List Op) (answers : List Answer) (old new : List Group) → (g : Grew c ops answers old new) → (mine g.between c ≡ []) × (mine g.after c ≡ [])
-others_around c ops answers old new g =
-    split (mine old c) (mine g.between c) (mine g.after c) (next_group old c ops)
-    (sym (ap (λ h. mine h c) g.grown ∙ mine-append (old ++ g.between) (next_group old c ops ∷ g.after) c
-    ∙ ap (λ gs. gs ++ mine (next_group old c ops ∷ g.after) c) (mine-append old g.between c)
-    ∙ ap (λ gs. (mine old c ++ mine g.between c) ++ gs) (mine_own (next_group old c ops) c g.after refl)) ∙ g.own)
+use Rattle.bq_model.specs.Values.{enqueued}
 
 -- as many answers as operations of the caller
 pub length-answers_in : (q : List ℕ) (h : List Group) (c : ℕ) → length (answers_in q h c) ≡ length (operations (mine h c))
@@ -51,7 +32,7 @@ length-answers_in q (g ∷ h) c =
       | inl same ↦
           ap length (answers_in-own q g h c same) ∙ length-append (answers_from q g.ops) (answers_in (queue_from q g.ops) h c)
           ∙ ap (λ k. k + length (answers_in (queue_from q g.ops) h c)) (length-answers_from q g.ops) ∙ ap (λ k. length g.ops + k) (length-answers_in (queue_from q g.ops) h c)
-          ∙ sym (length-append g.ops (operations (mine h c))) ∙ ap (λ gs. length (operations gs)) (sym (mine_own g c h same))
+          ∙ sym (length-append g.ops (operations (mine h c))) ∙ ap (λ gs. length (operations gs)) (sym (mine-own g h c same))
       | inr other ↦
           ap length (answers_in-other q g h c other) ∙ length-answers_in (queue_from q g.ops) h c
           ∙ ap (λ b. length (operations (cond b (g ∷ mine h c) (mine h c)))) (sym (ne_eqb g.caller c other))
@@ -80,9 +61,9 @@ caught-grew c ops answers old new g =
     ∙ ap (λ k. caught old c ++ caught_from k answers) (zero-add (length (answers_to old c)) ∙ length-answers_in [] old c)
 
 -- and so does what it enqueued
-pub values-grew : (c : ℕ) (ops : List Op) (answers : List Answer) (old new : List Group) → Grew c ops answers old new → values_enqueued (operations (mine new c)) ≡ values_enqueued (operations (mine old c)) ++ values_enqueued ops
+pub values-grew : (c : ℕ) (ops : List Op) (answers : List Answer) (old new : List Group) → Grew c ops answers old new → enqueued (operations (mine new c)) ≡ enqueued (operations (mine old c)) ++ enqueued ops
 values-grew c ops answers old new g =
-    ap (λ gs. values_enqueued (operations gs)) g.own ∙ ap values_enqueued (operations-push (mine old c) (next_group old c ops)) ∙ values_enqueued-append (operations (mine old c)) ops
+    ap (λ gs. enqueued (operations gs)) g.own ∙ ap enqueued (operations-push (mine old c) (next_group old c ops)) ∙ enqueued-append (operations (mine old c)) ops
 
 -- a unit that stands together still does
 pub StandTogether-grew : (c : ℕ) (ops : List Op) (answers : List Answer) (old new : List Group) → Grew c ops answers old new → (numbers : List ℕ) → StandTogether (mine old c) numbers → StandTogether (mine new c) numbers
@@ -95,24 +76,24 @@ StandTogether-grew c ops answers old new g numbers s = record {
 }
 
 -- A call that enqueues nothing.
-pub HandPut-other : (units : List Numbered) (c : ℕ) (ops : List Op) (answers : List Answer) (old new : List Group) → values_enqueued ops ≡ [] → Grew c ops answers old new → HandPut units c old → HandPut units c new
+pub HandPut-other : (units : List Numbered) (c : ℕ) (ops : List Op) (answers : List Answer) (old new : List Group) → enqueued ops ≡ [] → Grew c ops answers old new → HandPut units c old → HandPut units c new
 HandPut-other units c ops answers old new none g h = record {
-  put = values-grew c ops answers old new g ∙ ap (λ vs. values_enqueued (operations (mine old c)) ++ vs) none ∙ append-nil (values_enqueued (operations (mine old c))) ∙ h.put;
+  put = values-grew c ops answers old new g ∙ ap (λ vs. enqueued (operations (mine old c)) ++ vs) none ∙ append-nil (enqueued (operations (mine old c))) ∙ h.put;
   together = All-weaker (λ (unit : Numbered). StandTogether (mine old c) unit.numbers) (λ unit. StandTogether (mine new c) unit.numbers) (λ unit s. StandTogether-grew c ops answers old new g unit.numbers s) units h.together;
 }
 
-values_of_enqs : (vs : List ℕ) → values_enqueued (map Enq vs) ≡ vs
+values_of_enqs : (vs : List ℕ) → enqueued (map Enq vs) ≡ vs
 values_of_enqs [] = refl
 values_of_enqs (v ∷ vs) = ap (λ ws. v ∷ ws) (values_of_enqs vs)
 
-pub values_of_deqs : (n : ℕ) → values_enqueued (replicate n Deq) ≡ []
+pub values_of_deqs : (n : ℕ) → enqueued (replicate n Deq) ≡ []
 values_of_deqs zero = refl
 values_of_deqs (suc n) = values_of_deqs n
 
-pub values_of_unit : (numbers : List ℕ) → values_enqueued (unit_ops numbers) ≡ numbers
+pub values_of_unit : (numbers : List ℕ) → enqueued (unit_ops numbers) ≡ numbers
 values_of_unit numbers =
-    values_enqueued-append (map Enq numbers) (replicate (length numbers / 2) Deq)
-    ∙ ap (λ vs. vs ++ values_enqueued (replicate (length numbers / 2) Deq)) (values_of_enqs numbers)
+    enqueued-append (map Enq numbers) (replicate (length numbers / 2) Deq)
+    ∙ ap (λ vs. vs ++ enqueued (replicate (length numbers / 2) Deq)) (values_of_enqs numbers)
     ∙ ap (λ vs. numbers ++ vs) (values_of_deqs (length numbers / 2)) ∙ append-nil numbers
 
 -- A call that puts a unit.
@@ -127,7 +108,7 @@ HandPut-unit units unit c answers old new g h =
       together = refl;
     } in
     record {
-      put = values-grew c ops answers old new g ∙ ap (λ vs. vs ++ values_enqueued ops) h.put ∙ ap (λ vs. flat_map (λ (u : Numbered). u.numbers) units ++ vs) (values_of_unit unit.numbers ∙ sym (append-nil unit.numbers))
+      put = values-grew c ops answers old new g ∙ ap (λ vs. vs ++ enqueued ops) h.put ∙ ap (λ vs. flat_map (λ (u : Numbered). u.numbers) units ++ vs) (values_of_unit unit.numbers ∙ sym (append-nil unit.numbers))
           ∙ sym (flat_map-append (λ (u : Numbered). u.numbers) units (unit ∷ []));
       together = All-push (λ (u : Numbered). StandTogether (mine new c) u.numbers) units unit
           (All-weaker (λ (u : Numbered). StandTogether (mine old c) u.numbers) (λ u. StandTogether (mine new c) u.numbers) (λ u s. StandTogether-grew c ops answers old new g u.numbers s) units h.together) here;
@@ -136,7 +117,7 @@ HandPut-unit units unit c answers old new g h =
 -- A refusal leaves it.
 pub HandPut-saw_more : (units : List Numbered) (c : ℕ) (old new : List Group) → SawMore c old new → HandPut units c old → HandPut units c new
 HandPut-saw_more units c old new s h = record {
-  put = ap (λ gs. values_enqueued (operations gs)) s.own ∙ h.put;
+  put = ap (λ gs. enqueued (operations gs)) s.own ∙ h.put;
   together = subst (λ gs. All (λ (unit : Numbered). StandTogether gs unit.numbers) units) (sym s.own) h.together;
 }
 
@@ -157,26 +138,15 @@ EndedEmpty-grew batch c ops answers found old new dequeues e g = record {
   empty = sym g.answered ∙ e;
 }
 
-none_put : (batch : ℕ) (ops : List Op) → (ops ≡ replicate batch Deq) ⊎ (ops ≡ Deq ∷ []) → values_enqueued ops ≡ []
-none_put batch ops (inl many) = ap values_enqueued many ∙ values_of_deqs batch
-none_put batch ops (inr one) = ap values_enqueued one
+none_put : (batch : ℕ) (ops : List Op) → (ops ≡ replicate batch Deq) ⊎ (ops ≡ Deq ∷ []) → enqueued ops ≡ []
+none_put batch ops (inl many) = ap enqueued many ∙ values_of_deqs batch
+none_put batch ops (inr one) = ap enqueued one
 
 pub HandDid-ends : (units : List Numbered) (batch c : ℕ) (ops : List Op) (answers found : List Answer) (old new : List Group) → (ops ≡ replicate batch Deq) ⊎ (ops ≡ Deq ∷ []) → answers ≡ found ++ Empty ∷ [] → Grew c ops answers old new
     → HandPut units c old → HandDid units batch c new
 HandDid-ends units batch c ops answers found old new dequeues e g h =
     let after = HandPut-other units c ops answers old new (none_put batch ops dequeues) g h in
     record { put = after.put; together = after.together; ended = EndedEmpty-grew batch c ops answers found old new dequeues e g }
-
--- what a pass has seen, then more, then more again
-pub SawMore-trans : (c : ℕ) (one two three : List Group) → SawMore c one two → SawMore c two three → SawMore c one three
-SawMore-trans c one two three s t = record {
-  more = s.more ++ t.more;
-  grown = t.grown ∙ ap (λ h. h ++ t.more) s.grown ∙ append_assoc one s.more t.more;
-  own = t.own ∙ s.own;
-}
-
-pub SawMore-refl : (c : ℕ) (h : List Group) → SawMore c h h
-SawMore-refl c h = record { more = []; grown = sym (append-nil h); own = refl }
 
 -- a caller that made nothing
 pub idle_saw_more : (c : ℕ) (new : List Group) → SawMore c [] new → mine new c ≡ []

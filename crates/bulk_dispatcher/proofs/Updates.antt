@@ -11,7 +11,7 @@ use Rattle.bq_model.specs.Own.{mine}
 use Rattle.job_text.specs.declared.file.Unit.{Unit as JobUnit}
 use Rattle.job_text.specs.JobFile.{job_at}
 use Rattle.bulk_dispatcher.specs.declared.reply.Reply.{Reply}
-use Rattle.bulk_dispatcher.specs.Grew.{Grew}
+use Rattle.bq_model.specs.Grows.{Grew}
 use Rattle.bulk_dispatcher.specs.Hands.{Catch, caught, caught_from, reply_for, replies_on}
 use Rattle.bulk_dispatcher.proofs.Steps.{caught-grew, caught_from-append}
 use Rattle.bulk_dispatcher.proofs.Lanes.{Climbs}

@@ -14,8 +14,9 @@ use Rattle.job_work.specs.declared.job.Job.{Job}
 use Rattle.job_work.specs.Answer.{answer_of}
 use Rattle.bq_model.specs.Proper.{IsProper}
 use Rattle.bulk_dispatcher.specs.declared.reply.Reply.{Reply}
-use Rattle.bulk_dispatcher.specs.Grew.{SawMore}
-use Rattle.bulk_dispatcher.specs.Books.{Numbered, units_on, lanes_of, values_enqueued, StandTogether}
+use Rattle.bq_model.specs.Grows.{SawMore}
+use Rattle.bulk_dispatcher.specs.Books.{Numbered, units_on, lanes_of, StandTogether}
+use Rattle.bq_model.specs.Values.{enqueued}
 
 -- the units of a file that a hand puts on a lane: unit u goes to hand u mod hands
 abbrev pub units_of : List JobUnit → ℕ → ℕ → ℕ → List Numbered
@@ -60,7 +61,7 @@ caught h c = caught_from 0 (answers_to h c)
 -- What a hand did on a lane for its units, by the history that it has seen there.
 pub record HandDid (units : List Numbered) (batch c : ℕ) (h : List Group) : Type 0 where
   -- It enqueued the jobs of its units in file order, and nothing else.
-  pub put : values_enqueued (operations (mine h c)) ≡ flat_map (λ unit. unit.numbers) units
+  pub put : enqueued (operations (mine h c)) ≡ flat_map (λ unit. unit.numbers) units
   -- Each unit stands in one of its groups.
   pub together : All (λ unit. StandTogether (mine h c) unit.numbers) units
   -- It stopped where it found nothing.
@@ -90,7 +91,7 @@ pub record AllDone (file : List JobUnit) (hands batch : ℕ) (books : List (List
 
 -- What a hand did on a lane for these units, before it is done.
 pub record HandPut (units : List Numbered) (c : ℕ) (h : List Group) : Type 0 where
-  pub put : values_enqueued (operations (mine h c)) ≡ flat_map (λ unit. unit.numbers) units
+  pub put : enqueued (operations (mine h c)) ≡ flat_map (λ unit. unit.numbers) units
   pub together : All (λ unit. StandTogether (mine h c) unit.numbers) units
 
 -- what a hand hands back: what it has seen of each lane, and its replies

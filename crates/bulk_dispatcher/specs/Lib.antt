@@ -4,4 +4,4 @@ pub mod Replies
 pub mod Served
 pub mod Turns
 pub mod Hands
-pub mod Grew
+pub mod UnitOps
