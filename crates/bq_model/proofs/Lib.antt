@@ -1,3 +1,5 @@
 pub mod Histories
 pub mod Growing
 pub mod Values
+pub mod QueuedItems
+pub mod ComingLemmas

@@ -1,6 +1,7 @@
 -- The definitions that everything else is measured by.
 pub mod Queue
 pub mod Replay
+pub mod Coming
 pub mod History
 pub mod Values
 pub mod Own

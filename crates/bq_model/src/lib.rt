@@ -4,7 +4,8 @@
 //! promises to those who use it; `items` the lists that contracts see as lists, and `bounded` those with a capacity,
 //! as batches and their answers; `error` the refusals and `fault` the faults of a text; `source` and `sink` the two
 //! ends of the program, `memory_source` and `memory_sink` those over memory, `adapter` those over std's readers and
-//! writers. The definitions stand in `specs/`, one notion a file.
+//! writers; `judge` tells whether answers are those of one thread, and `laws` has laws of the definitions, which stand
+//! in `specs/`, one notion a file.
 #![tactic(auto)]
 
 mod adapter;
@@ -13,6 +14,7 @@ mod error;
 mod fault;
 mod group;
 mod items;
+mod judge;
 mod lane;
 mod laws;
 mod memory_sink;
@@ -30,6 +32,7 @@ pub use error::{Failed, OutOfMemory, Refusal};
 pub use fault::{TextCause, TextFault, TextRefused};
 pub use group::Group;
 pub use items::{Bytes, Items, Numbers, Ops, Text, Texts};
+pub use judge::legal;
 pub use lane::Lane;
 pub use laws::{a_count_that_stays_is_no_rise, first_in_is_first_out};
 pub use memory_sink::MemorySink;
