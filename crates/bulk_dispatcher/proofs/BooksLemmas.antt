@@ -11,10 +11,11 @@ use Rattle.bq_model.specs.History.{operations, last_queue}
 use Rattle.bq_model.specs.Proper.{IsProper}
 use Rattle.job_text.specs.declared.file.Unit.{Unit as JobUnit}
 use Rattle.job_text.specs.JobFile.{job_count}
-use Rattle.bulk_dispatcher.specs.Books.{Numbered, numbered_from, units_on, jobs_on, lanes_of, values_enqueued, StandTogether, BooksFit}
+use Rattle.bulk_dispatcher.specs.Books.{Numbered, numbered_from, units_on, jobs_on, lanes_of, StandTogether, BooksFit}
 use Rattle.bulk_dispatcher.specs.Served.{is_single, is_served}
 use Rattle.bulk_dispatcher.specs.Turns.{turns}
-use Rattle.bulk_dispatcher.proofs.TurnsLemmas.{last_queue-turns, values_enqueued-turns, StandTogether-turns}
+use Rattle.bulk_dispatcher.proofs.TurnsLemmas.{last_queue-turns, enqueued-turns, StandTogether-turns}
+use Rattle.bq_model.specs.Values.{enqueued}
 
 -- a unit that is a single job on lane 0
 abbrev pub IsSingle : JobUnit → Type 0
@@ -36,13 +37,13 @@ singles (unit ∷ units) h =
 
 -- the numbers of single jobs, from n on
 abbrev pub alone : ℕ → Numbered
-alone i = record { lane = 0; numbers = i ∷ [] }
+alone i = record { place = i; lane = 0; numbers = i ∷ [] }
 
-pub numbered_from-singles : (n : ℕ) (file : List JobUnit) → AllByRecursion IsSingle file → numbered_from n file ≡ map alone (range_with_len n (length file))
+pub numbered_from-singles : (n : ℕ) (file : List JobUnit) → AllByRecursion IsSingle file → numbered_from n n file ≡ map alone (range_with_len n (length file))
 numbered_from-singles n [] h = refl
 numbered_from-singles n (unit ∷ units) h =
-    ap (λ (lane : ℕ). record { lane = lane; numbers = range_with_len n (length unit.jobs) } ∷ numbered_from (n + length unit.jobs) units) h.0.0
-    ∙ ap (λ (k : ℕ). record { lane = 0; numbers = range_with_len n k } ∷ numbered_from (n + k) units) h.0.1
+    ap (λ (lane : ℕ). record { place = n; lane = lane; numbers = range_with_len n (length unit.jobs) } ∷ numbered_from (n + 1) (n + length unit.jobs) units) h.0.0
+    ∙ ap (λ (k : ℕ). record { place = n; lane = 0; numbers = range_with_len n k } ∷ numbered_from (n + 1) (n + k) units) h.0.1
     ∙ ap (λ (us : List Numbered). alone n ∷ us) (numbered_from-singles (n + 1) units h.1)
 
 units_on-alone : (ns : List ℕ) → filter (λ (unit : Numbered). unit.lane == 0) (map alone ns) ≡ map alone ns
@@ -116,8 +117,8 @@ BooksFit-turns file h some proper =
     let units : map alone (range_with_len 0 n) ≡ units_on file 0 = ap (λ (k : ℕ). map alone (range_with_len 0 k)) (job_count-singles file hs) ∙ sym (units_on-singles file hs) in
     record {
       proper = subst (λ (ls : List ℕ). AllZip (λ (lane : ℕ) (book : List Group). IsProper 2 book) ls (turns n ∷ [])) lanes (proper, tt);
-      each_once = subst (λ (ls : List ℕ). AllZip (λ (lane : ℕ) (book : List Group). IsPermutation (jobs_on file lane) (values_enqueued (operations book))) ls (turns n ∷ [])) lanes
-          (subst (IsPermutation (jobs_on file 0)) (sym count ∙ sym (values_enqueued-turns n)) (IsPermutation-refl (jobs_on file 0)), tt);
+      each_once = subst (λ (ls : List ℕ). AllZip (λ (lane : ℕ) (book : List Group). IsPermutation (jobs_on file lane) (enqueued (operations book))) ls (turns n ∷ [])) lanes
+          (subst (IsPermutation (jobs_on file 0)) (sym count ∙ sym (enqueued-turns n)) (IsPermutation-refl (jobs_on file 0)), tt);
       together = subst (λ (ls : List ℕ). AllZip (λ (lane : ℕ) (book : List Group). All (λ (unit : Numbered). StandTogether book unit.numbers) (units_on file lane)) ls (turns n ∷ [])) lanes
           (subst (All (λ (unit : Numbered). StandTogether (turns n) unit.numbers)) units (All-from_recursion _ _ (together n (range_with_len 0 n) (below 0 n n (omega arith)))), tt);
       emptied = subst (λ (ls : List ℕ). AllZip (λ (lane : ℕ) (book : List Group). last_queue book ≡ []) ls (turns n ∷ [])) lanes (last_queue-turns n, tt);

@@ -20,7 +20,8 @@ use Rattle.std.proofs.lemmas.List.{replicate_more}
 use Rattle.std.proofs.lemmas.List.Elements.{Contains-append_left, Contains-push}
 use Rattle.std.proofs.lemmas.List.Sums.{sum_by-cons}
 use Rattle.bulk_dispatcher.specs.Turns.{after_turn, turns}
-use Rattle.bulk_dispatcher.specs.Books.{values_enqueued, StandTogether}
+use Rattle.bulk_dispatcher.specs.Books.{StandTogether}
+use Rattle.bq_model.specs.Values.{enqueued}
 
 callers_of-push : (h : List Group) (g : Group) → callers_of (h ++ g ∷ []) ≡ callers_of h ++ replicate (length g.ops) g.caller
 callers_of-push h g = flat_map-append (λ (x : Group). replicate (length x.ops) x.caller) h (g ∷ []) ∙ ap (λ cs. callers_of h ++ cs) (append-nil (replicate (length g.ops) g.caller))
@@ -132,10 +133,10 @@ GotAnswer-turns n i l = record {
   answered = got-turns n i l;
 }
 
-values_enqueued-append : (xs ys : List Op) → values_enqueued (xs ++ ys) ≡ values_enqueued xs ++ values_enqueued ys
-values_enqueued-append [] ys = refl
-values_enqueued-append (Enq v ∷ xs) ys = ap (λ (vs : List ℕ). v ∷ vs) (values_enqueued-append xs ys)
-values_enqueued-append (Deq ∷ xs) ys = values_enqueued-append xs ys
+enqueued-append : (xs ys : List Op) → enqueued (xs ++ ys) ≡ enqueued xs ++ enqueued ys
+enqueued-append [] ys = refl
+enqueued-append (Enq v ∷ xs) ys = ap (λ (vs : List ℕ). v ∷ vs) (enqueued-append xs ys)
+enqueued-append (Deq ∷ xs) ys = enqueued-append xs ys
 
 -- n numbers from a on, and one more
 pub range_with_len-push : (a n : ℕ) → range_with_len a n ++ (a + n) ∷ [] ≡ range_with_len a (n + 1)
@@ -146,11 +147,11 @@ range_with_len-push a (suc n) =
     ap (λ (ks : List ℕ). a ∷ ks) (ap (λ (k : ℕ). range_with_len (a + 1) n ++ k ∷ []) shifted ∙ range_with_len-push (a + 1) n) ∙ ap (range_with_len a) counted
 
 -- each number was put once
-pub values_enqueued-turns : (n : ℕ) → values_enqueued (operations (turns n)) ≡ range_with_len 0 n
-values_enqueued-turns zero = refl
-values_enqueued-turns (suc n) =
-    ap values_enqueued (operations-after_turn (turns n) n) ∙ values_enqueued-append (operations (turns n)) (Enq n ∷ Deq ∷ [])
-    ∙ ap (λ (vs : List ℕ). vs ++ n ∷ []) (values_enqueued-turns n)
+pub enqueued-turns : (n : ℕ) → enqueued (operations (turns n)) ≡ range_with_len 0 n
+enqueued-turns zero = refl
+enqueued-turns (suc n) =
+    ap enqueued (operations-after_turn (turns n) n) ∙ enqueued-append (operations (turns n)) (Enq n ∷ Deq ∷ [])
+    ∙ ap (λ (vs : List ℕ). vs ++ n ∷ []) (enqueued-turns n)
     ∙ ap (λ (k : ℕ). range_with_len 0 n ++ k ∷ []) (sym (zero-add n)) ∙ range_with_len-push 0 n ∙ ap (range_with_len 0) (add-one n)
 
 -- each number stands in a group of its own

@@ -3,3 +3,5 @@ pub mod Books
 pub mod Replies
 pub mod Served
 pub mod Turns
+pub mod Hands
+pub mod UnitOps
