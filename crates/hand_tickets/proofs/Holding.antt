@@ -18,8 +18,8 @@ use Rattle.bq_session.specs.declared.future.Future.{Future}
 use Rattle.bq_session.specs.declared.future.Standing.{Standing}
 use Rattle.bq_session.specs.declared.future.Standing.TheVariants.{Pending, Kept, Withdrawn}
 use Rattle.bq_session.specs.declared.claim.Outcome.{Outcome}
-use Rattle.bq_session.specs.Outcome.{outcome_of}
-use Rattle.bq_session.specs.Session.{SessionState, made_by, IsMade, IsMadeWith}
+use Rattle.bq_session.specs.Outcome.{outcome_of, made_by}
+use Rattle.bq_session.specs.Session.{SessionState, IsMade, IsMadeWith}
 use Rattle.bq_session.specs.Futures.{LiveFutures, under, Stands, IsIssued, live_count, spent, settled, keeping, restand, last_withdrawn, withdrawing}
 use Rattle.bq_session.proofs.Evaluated.{Stands-settled}
 use Rattle.bq_session.proofs.Names.{length-grew}

@@ -9,8 +9,8 @@ use Rattle.bq_session.specs.declared.future.Standing.TheVariants.{Pending, Kept,
 use Rattle.bq_model.specs.declared.group.Group.{Group}
 use Rattle.bq_model.specs.Grows.{Grew}
 use Rattle.bq_session.specs.declared.claim.Outcome.{Outcome}
-use Rattle.bq_session.specs.Outcome.{outcome_of}
-use Rattle.bq_session.specs.Session.{SessionState, made_by}
+use Rattle.bq_session.specs.Outcome.{outcome_of, made_by}
+use Rattle.bq_session.specs.Session.{SessionState}
 use Rattle.bq_session.specs.Futures.{Stands, live_count}
 
 -- no two of the tickets have one key
