@@ -16,12 +16,12 @@ use Rattle.bqd.specs.declared.command.Command.{Command}
 use Rattle.bqd.specs.declared.command.Command.TheVariants.{Run}
 use Rattle.bqd.specs.Command.{reads}
 use Rattle.bqd.specs.declared.status.Status.{Status}
-use Rattle.bqd.specs.declared.status.Status.TheVariants.{Done as StatusDone, Usage, Refused, ReadFailed, WriteFailed, OutOfMemory}
+use Rattle.bqd.specs.declared.status.Status.TheVariants.{Done as StatusDone, Illegal, Usage, Refused, ReadFailed, WriteFailed, OutOfMemory}
 use Rattle.bqd.specs.Line.{fault_text}
 use Rattle.bqd.specs.Output.{WroteFront}
 use Rattle.bqd.specs.Streams.{Change, IsUntouched, IsFaulty}
 use Rattle.bqd.specs.Due.{Due, due_of_file}
-use Rattle.bqd.specs.Causes.{Call, ReadsInput, IsTold, IsDone, IsUsage, IsRefused, IsReadFailure, IsWriteFailure, IsOutOfMemory, DueComes, IsExplained, due_in}
+use Rattle.bqd.specs.Causes.{Call, ReadsInput, IsTold, IsDone, IsIllegal, IsUsage, IsRefused, IsReadFailure, IsWriteFailure, IsOutOfMemory, DueComes, IsExplained, due_in}
 use Rattle.bqd.specs.Runs.{AreRun, RunEnds}
 
 -- ---- what is said of something that is known
@@ -46,6 +46,7 @@ pub explained-done : (call : Call) → IsDone call → (reads call.command ≡ f
 explained-done call is stays = record {
   known = inl refl;
   done = λ _. is;
+  illegal = λ e. absurd (omega arith);
   usage = λ e. absurd (omega arith);
   refused = λ e. absurd (omega arith);
   read_failed = λ e. absurd (omega arith);
@@ -55,10 +56,25 @@ explained-done call is stays = record {
   source_stays = stays;
 }
 
-pub explained-usage : (call : Call) → IsUsage call → IsUntouched call.source → IsExplained 2 call
-explained-usage call is stays = record {
+pub explained-illegal : (call : Call) → IsIllegal call → (reads call.command ≡ false → IsUntouched call.source) → IsExplained 1 call
+explained-illegal call is stays = record {
   known = inr (inl refl);
   done = λ e. absurd (omega arith);
+  illegal = λ _. is;
+  usage = λ e. absurd (omega arith);
+  refused = λ e. absurd (omega arith);
+  read_failed = λ e. absurd (omega arith);
+  write_failed = λ e. absurd (omega arith);
+  out_of_memory = λ e. absurd (omega arith);
+  due_comes = told_comes 1 call is.told;
+  source_stays = stays;
+}
+
+pub explained-usage : (call : Call) → IsUsage call → IsUntouched call.source → IsExplained 2 call
+explained-usage call is stays = record {
+  known = inr (inr (inl refl));
+  done = λ e. absurd (omega arith);
+  illegal = λ e. absurd (omega arith);
   usage = λ _. is;
   refused = λ e. absurd (omega arith);
   read_failed = λ e. absurd (omega arith);
@@ -70,8 +86,9 @@ explained-usage call is stays = record {
 
 pub explained-refused : (call : Call) → IsRefused call → IsExplained 3 call
 explained-refused call is = record {
-  known = inr (inr (inl refl));
+  known = inr (inr (inr (inl refl)));
   done = λ e. absurd (omega arith);
+  illegal = λ e. absurd (omega arith);
   usage = λ e. absurd (omega arith);
   refused = λ _. is;
   read_failed = λ e. absurd (omega arith);
@@ -83,8 +100,9 @@ explained-refused call is = record {
 
 pub explained-read : (call : Call) → IsReadFailure call → IsExplained 4 call
 explained-read call is = record {
-  known = inr (inr (inr (inl refl)));
+  known = inr (inr (inr (inr (inl refl))));
   done = λ e. absurd (omega arith);
+  illegal = λ e. absurd (omega arith);
   usage = λ e. absurd (omega arith);
   refused = λ e. absurd (omega arith);
   read_failed = λ _. is;
@@ -96,8 +114,9 @@ explained-read call is = record {
 
 pub explained-write : (call : Call) → IsWriteFailure call → (reads call.command ≡ false → IsUntouched call.source) → IsExplained 5 call
 explained-write call is stays = record {
-  known = inr (inr (inr (inr (inl refl))));
+  known = inr (inr (inr (inr (inr (inl refl)))));
   done = λ e. absurd (omega arith);
+  illegal = λ e. absurd (omega arith);
   usage = λ e. absurd (omega arith);
   refused = λ e. absurd (omega arith);
   read_failed = λ e. absurd (omega arith);
@@ -109,8 +128,9 @@ explained-write call is stays = record {
 
 pub explained-memory : (call : Call) → IsOutOfMemory call → (reads call.command ≡ false → IsUntouched call.source) → IsExplained 6 call
 explained-memory call is stays = record {
-  known = inr (inr (inr (inr (inr refl))));
+  known = inr (inr (inr (inr (inr (inr refl)))));
   done = λ e. absurd (omega arith);
+  illegal = λ e. absurd (omega arith);
   usage = λ e. absurd (omega arith);
   refused = λ e. absurd (omega arith);
   read_failed = λ e. absurd (omega arith);
@@ -159,6 +179,7 @@ ends-answer hands batch source out err (Ok done) file end is stays written fit n
       explained-done (run_call hands batch source out err) (record { command = refl; told = told; to_the_end = λ _. end }) (untouched (run_call hands batch source out err) refl),
     )
 ends-answer hands batch source out err (Err StatusDone) file end is stays written fit named known faulty front same counts = elim known [ inl e ↦ cc e | inr e ↦ cc e ]
+ends-answer hands batch source out err (Err Illegal) file end is stays written fit named known faulty front same counts = elim known [ inl e ↦ cc e | inr e ↦ cc e ]
 ends-answer hands batch source out err (Err Usage) file end is stays written fit named known faulty front same counts = elim known [ inl e ↦ cc e | inr e ↦ cc e ]
 ends-answer hands batch source out err (Err Refused) file end is stays written fit named known faulty front same counts = elim known [ inl e ↦ cc e | inr e ↦ cc e ]
 ends-answer hands batch source out err (Err ReadFailed) file end is stays written fit named known faulty front same counts = elim known [ inl e ↦ cc e | inr e ↦ cc e ]

@@ -12,7 +12,7 @@ use Rattle.bulk_dispatcher.specs.Served.{is_served}
 use Rattle.bqd.specs.Input.{file_of, served_of, other_form}
 
 -- what was read of a source with these bytes is their front, one byte longer than a text may be, or all of them
-front_is_read : (bytes rest input : List ℕ) → bytes ≡ input ++ rest → length input ≤ most_bytes + 1 → (length input ≤ most_bytes → rest ≡ []) → input ≡ take (most_bytes + 1) bytes
+pub front_is_read : (bytes rest input : List ℕ) → bytes ≡ input ++ rest → length input ≤ most_bytes + 1 → (length input ≤ most_bytes → rest ≡ []) → input ≡ take (most_bytes + 1) bytes
 front_is_read bytes rest input e most whole =
     elim (cases_lt most_bytes (length input)) [
       | inl long ↦ sym (take_at input rest (most_bytes + 1) (omega arith)) ∙ ap (take (most_bytes + 1)) (sym e)

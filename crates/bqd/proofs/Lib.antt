@@ -1,3 +1,4 @@
 pub mod Known
 pub mod InputLemmas
 pub mod CauseLemmas
+pub mod TextLemmas

@@ -5,7 +5,7 @@ use Rattle.std.specs.String.{string_bytes}
 use Rattle.std.specs.declared.string.String.{String}
 use Rattle.text_lines.specs.Reading.{most_bytes}
 use Rattle.bqd.specs.declared.command.Command.{Command}
-use Rattle.bqd.specs.Command.{command_in, reads}
+use Rattle.bqd.specs.Command.{command_in, reads, checks}
 use Rattle.bqd.specs.Due.{Due, due_of}
 use Rattle.bqd.specs.Streams.{Change, IsUntouched, IsFaulty, FailsAt}
 
@@ -49,6 +49,12 @@ pub record IsDone (call : Call) : Type 0 where
   pub told : IsTold 0 call
   pub to_the_end : ReadsInput call → IsAtEnd call.source.after
 
+-- 1: the command was to check a history, which is illegal
+pub record IsIllegal (call : Call) : Type 0 where
+  pub command : checks call.command ≡ true
+  pub told : IsTold 1 call
+  pub to_the_end : IsAtEnd call.source.after
+
 -- 2: the words are no command, and the usage line was written
 pub record IsUsage (call : Call) : Type 0 where
   pub no_command : call.command ≡ None
@@ -89,12 +95,13 @@ DueComes status call = IfSome (due_in call) (λ due. (ReadsInput call → ¬ IsF
 
 -- the numbers that a call may end with
 abbrev pub IsStatus : ℕ → Type 0
-IsStatus status = (status ≡ 0) ⊎ (status ≡ 2) ⊎ (status ≡ 3) ⊎ (status ≡ 4) ⊎ (status ≡ 5) ⊎ (status ≡ 6)
+IsStatus status = (status ≡ 0) ⊎ (status ≡ 1) ⊎ (status ≡ 2) ⊎ (status ≡ 3) ⊎ (status ≡ 4) ⊎ (status ≡ 5) ⊎ (status ≡ 6)
 
 -- each status has its cause
 pub record IsExplained (status : ℕ) (call : Call) : Type 0 where
   pub known : IsStatus status
   pub done : status ≡ 0 → IsDone call
+  pub illegal : status ≡ 1 → IsIllegal call
   pub usage : status ≡ 2 → IsUsage call
   pub refused : status ≡ 3 → IsRefused call
   pub read_failed : status ≡ 4 → IsReadFailure call

@@ -2,6 +2,7 @@
 pub mod Command
 pub mod Usage
 pub mod Line
+pub mod VerdictLine
 pub mod Output
 pub mod Streams
 pub mod Input

@@ -1,7 +1,7 @@
 // What the words of the command line ask for.
 ghost use Rattle.std.specs.Prelude.{◌≡◌, map};
 ghost use Rattle.std.specs.String.{string_bytes};
-ghost use Rattle.bqd.specs.Command.{command_in, gen_in, is_one};
+ghost use Rattle.bqd.specs.Command.{command_in, alone, gen_in, is_one};
 
 use text_lines::number_within;
 
@@ -18,6 +18,10 @@ pub enum Command {
         /// How many operations at most go to a queue as one.
         batch: u32,
     },
+    /// Judges a history.
+    Check,
+    /// Plays a schedule.
+    Play,
     /// Prints a job file that is made from a number.
     Gen {
         /// How many jobs it has, at most 500,000.
@@ -35,7 +39,21 @@ pub fn command_of(words: &[String]) -> Option<Command>
             Some(Command::Run { hands: 1, batch: 1 })
         }
         [name, jobs] if name.as_str() == "gen" => gen_of(jobs),
+        [name] => alone(name),
         _ => None,
+    }
+}
+
+// The command of this word alone.
+fn alone(name: &String) -> Option<Command>
+    ensures { result ≡ alone (string_bytes name.now) }
+{
+    if name.as_str() == "check" {
+        Some(Command::Check)
+    } else if name.as_str() == "play" {
+        Some(Command::Play)
+    } else {
+        None
     }
 }
 

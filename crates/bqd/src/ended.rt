@@ -2,8 +2,8 @@ ghost use Rattle.std.specs.Prelude.{◌≡◌, []};
 
 use crate::status::Status;
 use bq_model::Items;
-use plain_lane::Book;
 use bulk_dispatcher::{Done, Reply};
+use plain_lane::Book;
 use std::alloc::Global;
 
 /// What a call of `top` leaves. Both lists are empty but where jobs were run and their replies written.

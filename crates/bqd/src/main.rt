@@ -2,8 +2,8 @@
 //!
 //! `command` reads the words of the command line and `usage` says which there are; `input` reads all of the
 //! input and `file` the job file that it is; `top` is the program over any streams, and `still` those commands of it
-//! that run no jobs; `status` has the numbers that it ends with and `ended` what it leaves; `replies` prints the replies, `output` writes all of a text, and `line` is the
-//! line that tells the fault of a text. The texts that a user sees and the causes of the statuses stand in `specs/`.
+//! that run no jobs, of which `texts` has those that read a history or a schedule; `status` has the numbers that it ends with and `ended` what it leaves; `replies` prints the replies, `output` writes all of a text, and `line` is the
+//! line that tells the fault of a text, `verdict_line` the one that tells a verdict. The texts that a user sees and the causes of the statuses stand in `specs/`.
 #![tactic(auto)]
 
 mod command;
@@ -17,10 +17,14 @@ mod status;
 mod still;
 #[cfg(test)]
 mod tests;
+#[cfg(test)]
+mod text_tests;
+mod texts;
 mod top;
 #[cfg(test)]
 mod top_tests;
 mod usage;
+mod verdict_line;
 
 use bq_model::{ReadSource, WriteSink};
 use bulk_dispatcher::NoGate;

@@ -5,6 +5,8 @@ ghost use Rattle.std.specs.Prelude.{◌≡◌};
 pub enum Status {
     /// The command was done.
     Done = 0,
+    /// The history that was checked is illegal.
+    Illegal = 1,
     /// The words are no command.
     Usage = 2,
     /// The grammar of the command refuses the input.

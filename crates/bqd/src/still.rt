@@ -13,6 +13,7 @@ ghost use Rattle.bqd.specs.Causes.{IsExplained, call};
 use crate::command::{Command, command_of};
 use crate::output::tell;
 use crate::status::Status;
+use crate::texts::{check, play};
 use crate::usage::usage;
 use bq_model::{OutOfMemory, Sink, Source, Text};
 use job_text::{generated, print_jobs};
@@ -55,6 +56,8 @@ pub fn still<S: Source, O: Sink, E: Sink>(
 {
     match command_of(words) {
         Some(Command::Gen { jobs }) => write_generated(alloc, jobs, out).number(),
+        Some(Command::Check) => check(alloc, source, out, err).number(),
+        Some(Command::Play) => play(alloc, source, out, err).number(),
         _ => tell(err, usage(), Status::Usage).number(),
     }
 }

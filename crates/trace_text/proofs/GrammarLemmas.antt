@@ -7,17 +7,19 @@ use Rattle.std.proofs.lemmas.Bool.{cases_lt, false_from_ne_true}
 use Rattle.std.proofs.lemmas.Option.{option_and_then_some, same_Some, none-some}
 use Rattle.std.proofs.lemmas.List.{take_all}
 use Rattle.std.proofs.lemmas.List.Elements.{All-nil, All-push}
+use Rattle.bq_model.specs.declared.fault.TextCause.{TextCause}
 use Rattle.bq_model.specs.declared.fault.TextFault.{TextFault}
 use Rattle.text_lines.specs.Lines.{lines_of}
 use Rattle.text_lines.specs.Number.{number_of}
 use Rattle.bq_model.specs.declared.fault.TextCause.TheVariants.{TooLong}
-use Rattle.text_lines.specs.Reading.{most_bytes, fault}
+use Rattle.text_lines.specs.Reading.{most_bytes, fault, text_state}
 use Rattle.text_lines.proofs.ReadingLemmas.{text_state-keeps, text_state-take, if_ok}
 use Rattle.trace_text.specs.declared.claim.Claim.{Claim}
 use Rattle.trace_text.specs.declared.claim.Entry.{Entry}
 use Rattle.trace_text.specs.Each.{each_of}
 use Rattle.trace_text.specs.Claims.{has_letter, claim_of, claims_of, or_bad_number, entry_of}
 use Rattle.trace_text.specs.HistoryText.{History, LinesSay, operation_count, most_operations, callers_in, entry_in, add_entry, group_line, line_in, meaning, nothing_yet, said_of, history_at_end, hist_of, ◌>>=◌}
+use Rattle.trace_text.specs.ScheduleText.{play_meaning, machine_at_end, play_of}
 use Rattle.trace_text.proofs.LegalLemmas.{IsFilled}
 
 -- ---- cases
@@ -95,15 +97,25 @@ filled_in text history is =
 
 -- ---- a text that is too long
 
--- a text means what its first bytes do, one more than a text may have
+-- what follows from a text and from the number of its lines, and is the fault where there is one
+module _ {S T : Type 0} (name version : List ℕ) (says : ℕ → S → List (List ℕ) → Result S TextCause) (start : S) (ended : ℕ → Result S TextFault → Result T TextFault) (fails : (line : ℕ) (found : TextFault) → ended line (Err found) ≡ Err found) where
+  -- a text means what its first bytes do, one more than a text may have
+  ended-take : (text : List ℕ)
+      → ended (length (lines_of (take (most_bytes + 1) text)) + 1) (text_state name version says start (take (most_bytes + 1) text)) ≡ ended (length (lines_of text) + 1) (text_state name version says start text)
+  ended-take text =
+      ⊎_elim
+      (λ long.
+      let too_long : nat_le (length text) most_bytes ≡ false = false_from_ne_true _ (λ within. absurd (omega (arith, leb-true (length text) most_bytes within))) in
+      let refused : text_state name version says start text ≡ Err (fault 0 TooLong) = rw too_long refl in
+      let one = length (lines_of (take (most_bytes + 1) text)) + 1 in
+      let other = length (lines_of text) + 1 in
+      ap (ended one) (text_state-take name version says start text ∙ refused) ∙ (fails one (fault 0 TooLong) ∙ (sym (fails other (fault 0 TooLong)) ∙ ap (ended other) (sym refused))))
+      (λ short. ap (λ t. ended (length (lines_of t) + 1) (text_state name version says start t)) (take_all (most_bytes + 1) text (omega arith)))
+      (cases_lt most_bytes (length text))
+
 pub hist_of-take : (text : List ℕ) → hist_of (take (most_bytes + 1) text) ≡ hist_of text
 hist_of-take text =
-    ⊎_elim
-    (λ long.
-    let shown = text_state-take (codes "bqhist") (codes "1") meaning nothing_yet text in
-    let too_long : nat_le (length text) most_bytes ≡ false = false_from_ne_true _ (λ within. absurd (omega (arith, leb-true (length text) most_bytes within))) in
-    let refused : said_of text ≡ Err (fault 0 TooLong) = rw too_long refl in
-    let ended : ℕ → Result LinesSay TextFault → Result History TextFault = λ line said. said >>= (λ say. history_at_end line say.callers say.entries) in
-    ap (ended (length (lines_of (take (most_bytes + 1) text)) + 1)) (shown ∙ refused) ∙ ap (ended (length (lines_of text) + 1)) (sym refused))
-    (λ short. ap hist_of (take_all (most_bytes + 1) text (omega arith)))
-    (cases_lt most_bytes (length text))
+    ended-take (codes "bqhist") (codes "1") meaning nothing_yet (λ line said. said >>= (λ say. history_at_end line say.callers say.entries)) (λ line found. refl) text
+
+pub play_of-take : (text : List ℕ) → play_of (take (most_bytes + 1) text) ≡ play_of text
+play_of-take text = ended-take (codes "bqplay") (codes "1") play_meaning None (λ line said. said >>= machine_at_end line) (λ line found. refl) text

@@ -6,6 +6,7 @@ ghost use Rattle.text_lines.specs.Lines.{lines_of};
 ghost use Rattle.text_lines.specs.Reading.{most_bytes, fault, text_line, IsFirstFault};
 ghost use Rattle.trace_text.specs.HistoryText.{History, LinesSay, operation_count, hist_of, said_of, meaning, nothing_yet};
 ghost use Rattle.trace_text.specs.Verdicts.{verdict_of, verdict_in};
+ghost use Rattle.trace_text.specs.Printed.{played_in};
 ghost use Rattle.trace_text.specs.Legal.{IsLegal, IsFirstIllegal};
 ghost use Rattle.trace_text.specs.declared.verdict.Verdict.TheVariants.{Legal, Illegal};
 
@@ -29,7 +30,8 @@ pub fn first_faulty_line_of_a_history_is_named()
         → hist_of text ≡ Err (fault (length (lines_of text) + 1) BadWord) }
 {}
 
-/// A text is judged as its first 16,777,217 bytes are, so that no more of it need be looked at.
-pub fn longer_histories_are_alike()
-    ensures { (text : List ℕ) → verdict_in (take (most_bytes + 1) text) ≡ verdict_in text }
+/// A text is judged and played as its first 16,777,217 bytes are, so that no more of it need be looked at.
+pub fn longer_texts_are_alike()
+    ensures histories { (text : List ℕ) → verdict_in (take (most_bytes + 1) text) ≡ verdict_in text }
+    ensures schedules { (text : List ℕ) → played_in (take (most_bytes + 1) text) ≡ played_in text }
 {}

@@ -1,6 +1,6 @@
 // Histories judged by hand, and the faults of texts that are none.
 use crate::{
-    Verdict, check_history, first_faulty_line_of_a_history_is_named, longer_histories_are_alike,
+    Verdict, check_history, first_faulty_line_of_a_history_is_named, longer_texts_are_alike,
     verdict_is_that_of_the_replay,
 };
 use bq_model::{TextCause, TextFault, TextRefused};
@@ -175,6 +175,6 @@ fn most_operations_are_a_million(rt: HostRuntime) -> Result<(), Fail> {
     assert!(rt; check_history(rt.alloc(), &text) == Err(TextRefused::Text(fault)));
     verdict_is_that_of_the_replay();
     first_faulty_line_of_a_history_is_named();
-    longer_histories_are_alike();
+    longer_texts_are_alike();
     Ok(())
 }
