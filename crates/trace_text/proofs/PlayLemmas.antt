@@ -9,7 +9,7 @@ use Rattle.bq_model.specs.declared.op.Op.{Op}
 use Rattle.bq_model.specs.History.{operations}
 use Rattle.core_model.specs.declared.kind.StepKind.{StepKind}
 use Rattle.core_model.specs.Kind.{kind_of}
-use Rattle.core_model.specs.Lane.{lane_of}
+use Rattle.core_model.specs.LaneSizes.{lane_sizes}
 use Rattle.core_model.specs.Start.{start, PassesAllowance}
 use Rattle.text_lines.proofs.ReadingLemmas.{if_ok}
 use Rattle.bq_model.specs.declared.shape.Shape.{Shape}
@@ -141,20 +141,20 @@ is_none-not : (kind : Option StepKind) → is_some kind ≡ true → is_none kin
 is_none-not None e = cc e
 is_none-not (Some kind) e = refl
 
-module _ (z : Shape) (s after : State) (c : ℕ) (ops : List Op) (allowed : ¬ PassesAllowance (lane_of z) (s.callers c) (length ops)) (starts : after ≡ start (lane_of z) s c ops) where
+module _ (z : Shape) (s after : State) (c : ℕ) (ops : List Op) (allowed : ¬ PassesAllowance (lane_sizes z) (s.callers c) (length ops)) (starts : after ≡ start (lane_sizes z) s c ops) where
   not_spent : nat_lt z.allowance (length (operations (s.callers c).mine) + length ops) ≡ false
   not_spent = false_from_ne_true _ (λ passes. allowed (ltb-true z.allowance (length (operations (s.callers c).mine) + length ops) passes))
 
   -- a command that found no row or no announcement left
-  pub refusal-full : (kind : Option StepKind) → kind ≡ kind_of (after.callers c).turn → is_some kind ≡ false → record { caller = c; reason = Full } ∷ [] ≡ refusal z s (event.Start c ops)
+  pub refusal-full : (kind : Option StepKind) → kind ≡ kind_of (after.callers c).point → is_some kind ≡ false → record { caller = c; reason = Full } ∷ [] ≡ refusal z s (event.Start c ops)
   refusal-full kind kind_is none =
-      let here : is_idle (start (lane_of z) s c ops) c ≡ true = ap (λ x. is_idle x c) (sym starts) ∙ (ap is_none (sym kind_is) ∙ is_none-from kind none) in
+      let here : is_idle (start (lane_sizes z) s c ops) c ≡ true = ap (λ x. is_idle x c) (sym starts) ∙ (ap is_none (sym kind_is) ∙ is_none-from kind none) in
       let spent = not_spent in
       rw (spent, here) refl
 
   -- a command that runs
-  pub refusal-none : (kind : Option StepKind) → kind ≡ kind_of (after.callers c).turn → is_some kind ≡ true → [] ≡ refusal z s (event.Start c ops)
+  pub refusal-none : (kind : Option StepKind) → kind ≡ kind_of (after.callers c).point → is_some kind ≡ true → [] ≡ refusal z s (event.Start c ops)
   refusal-none kind kind_is some =
-      let here : is_idle (start (lane_of z) s c ops) c ≡ false = ap (λ x. is_idle x c) (sym starts) ∙ (ap is_none (sym kind_is) ∙ is_none-not kind some) in
+      let here : is_idle (start (lane_sizes z) s c ops) c ≡ false = ap (λ x. is_idle x c) (sym starts) ∙ (ap is_none (sym kind_is) ∙ is_none-not kind some) in
       let spent = not_spent in
       rw (spent, here) refl

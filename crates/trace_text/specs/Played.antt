@@ -8,7 +8,7 @@ use Rattle.bq_model.specs.declared.shape.Shape.{Shape}
 use Rattle.bq_model.specs.History.{operations}
 use Rattle.core_model.specs.declared.kind.StepKind.{StepKind}
 use Rattle.core_model.specs.Kind.{kind_of}
-use Rattle.core_model.specs.Lane.{lane_of}
+use Rattle.core_model.specs.LaneSizes.{lane_sizes}
 use Rattle.core_model.specs.Start.{start, opening}
 use Rattle.core_model.specs.State.{State}
 use Rattle.step_core.specs.declared.schedule.Event.{Event}
@@ -32,20 +32,20 @@ after_events z s [] = s
 after_events z s (e ∷ es) = after_events z (after_event z s e) es
 
 abbrev pub opened : Shape → State
-opened z = opening (lane_of z)
+opened z = opening (lane_sizes z)
 
 abbrev pub state_of : Playing → State
 state_of p = after_events p.shape (opened p.shape) p.events
 
 -- whether caller c is idle: it has no next step
 abbrev pub is_idle : State → ℕ → Bool
-is_idle s c = is_none (kind_of (s.callers c).turn)
+is_idle s c = is_none (kind_of (s.callers c).point)
 
 -- the refusal of a command that would pass the allowance, or that finds no row or no announcement left
 abbrev pub refusal : Shape → State → Event → List Refused
 refusal z s (event.Start c ops) =
     if nat_lt z.allowance (length (operations (s.callers c).mine) + length ops) then record { caller = c; reason = Spent } ∷ []
-    else if is_idle (start (lane_of z) s c ops) c then record { caller = c; reason = Full } ∷ []
+    else if is_idle (start (lane_sizes z) s c ops) c then record { caller = c; reason = Full } ∷ []
     else []
 refusal z s (event.Step c) = []
 
@@ -81,7 +81,7 @@ stops_at name None = true
 stops_at name (Some kind) = bytes_eq (kind_name kind) name
 
 abbrev pub stops : List ℕ → ℕ → Playing → Bool
-stops name c p = stops_at name (kind_of ((state_of p).callers c).turn)
+stops name c p = stops_at name (kind_of ((state_of p).callers c).point)
 
 -- caller c makes a step, if one may still be made
 abbrev pub stepped : Playing → ℕ → Result Playing TextCause

@@ -4,7 +4,7 @@ ghost use Rattle.bq_model.specs.Proper.{IsProper};
 ghost use Rattle.text_lines.specs.Refusals.{ReadsLine};
 ghost use Rattle.trace_text.specs.Played.{state_of, refusals_of, refusal, is_idle, begun, stops, stepped, ran};
 ghost use Rattle.trace_text.specs.ScheduleText.{is_startable};
-ghost use Rattle.core_model.specs.declared.turn.Turn.TheVariants.{Idle};
+ghost use Rattle.core_model.specs.declared.point.Point.TheVariants.{Idle};
 ghost use Rattle.step_core.specs.Machine.{caller_at, state_at};
 ghost use Rattle.step_core.specs.Schedule.{after_event};
 ghost use Rattle.step_core.specs.declared.schedule.Event.TheVariants as event;
@@ -164,7 +164,7 @@ fn start(
     ops: &[Op],
 ) -> Result<(), OutOfMemory>
     requires known { caller < machine.old.shape.callers }
-    requires idle { (caller_at machine.old caller).turn ≡ Idle }
+    requires idle { (caller_at machine.old caller).point ≡ Idle }
     requires startable { is_startable ops.now ≡ true }
     requires most { length ops.now ≤ machine.old.shape.batch }
     ensures state { OnOk result (state_at machine.new ≡ after_event machine.old.shape (state_at machine.old) (event.Start caller ops.now)) }
