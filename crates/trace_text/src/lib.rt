@@ -26,8 +26,7 @@ mod verdict;
 
 pub use check::check_history;
 pub use laws::{
-    first_faulty_line_of_a_history_is_named, longer_texts_are_alike,
-    verdict_is_that_of_the_replay,
+    first_faulty_line_of_a_history_is_named, longer_texts_are_alike, verdict_is_that_of_the_replay,
 };
 pub use playing::play_schedule;
 pub use verdict::Verdict;
