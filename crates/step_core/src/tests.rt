@@ -689,11 +689,10 @@ struct Steps<'a> {
 
 #[test]
 fn steps_of_batches_and_helps_come_in_their_order(rt: HostRuntime) -> Result<(), Fail> {
-    let batch = [Op::Enq(5), Op::Enq(6), Op::Deq].as_slice();
     let rows = [
         // A whole batch.
         Steps {
-            acts: &[Act::Start(1, batch)],
+            acts: &[Act::Start(1, &[Op::Enq(5), Op::Enq(6), Op::Deq])],
             kinds: &[
                 StepKind::StoreValue,
                 StepKind::StoreValue,
@@ -734,7 +733,7 @@ fn steps_of_batches_and_helps_come_in_their_order(rt: HostRuntime) -> Result<(),
         // An enqueue meets the chain of a batch whose owner stopped right behind its link, and finishes it.
         Steps {
             acts: &[
-                Act::Start(0, batch),
+                Act::Start(0, &[Op::Enq(5), Op::Enq(6), Op::Deq]),
                 Act::Until(0, StepKind::LinkChain),
                 Act::Until(0, StepKind::LoadTail),
                 Act::Start(1, &[Op::Enq(9)]),
@@ -767,7 +766,7 @@ fn steps_of_batches_and_helps_come_in_their_order(rt: HostRuntime) -> Result<(),
             acts: &[
                 Act::Start(2, &[Op::Enq(7)]),
                 Act::Until(2, StepKind::MoveTail),
-                Act::Start(0, batch),
+                Act::Start(0, &[Op::Enq(5), Op::Enq(6), Op::Deq]),
                 Act::Until(0, StepKind::Install),
                 Act::Until(0, StepKind::LoadAnn),
                 Act::Start(1, &[Op::Deq]),
@@ -879,7 +878,11 @@ fn helpers_that_stop_anywhere_leave_one_group(rt: HostRuntime) -> Result<(), Fai
         let shape = Shape::new(5, 5, 8, 100, 0).ok_or("in limits")?;
         let mut machine = Machine::new(rt.alloc(), &shape)?;
         // The owner stops after its install, and three helpers stop after 0 to 23 steps. The fourth goes on to the end.
-        do_it(rt.alloc(), &mut machine, Act::Start(0, batch))?;
+        do_it(
+            rt.alloc(),
+            &mut machine,
+            Act::Start(0, &[Op::Enq(5), Op::Enq(6), Op::Deq]),
+        )?;
         do_it(rt.alloc(), &mut machine, Act::Until(0, StepKind::Install))?;
         go_steps(&mut machine, 0, 1)?;
         for caller in 1..4 {
