@@ -1,7 +1,7 @@
 -- How a fault of a text is printed.
 use Rattle.std.specs.Prelude.{ℕ, List, codes}
 use Rattle.bq_model.specs.declared.fault.TextCause.{TextCause}
-use Rattle.bq_model.specs.declared.fault.TextCause.TheVariants.{NotText, NoHeader, BadWord, BadNumber, BadLane, BlockTooLong, OpenBlock, BusyCaller, TooMany, TooLong, OtherForm}
+use Rattle.bq_model.specs.declared.fault.TextCause.TheVariants.{NotText, NoHeader, BadWord, BadNumber, BadLane, BlockTooLong, OpenBlock, BusyCaller, TooMany, TooLong}
 
 -- a cause in words
 abbrev pub cause_text : TextCause → List ℕ
@@ -15,4 +15,3 @@ cause_text OpenBlock = codes "open block"
 cause_text BusyCaller = codes "busy caller"
 cause_text TooMany = codes "too many"
 cause_text TooLong = codes "too long"
-cause_text OtherForm = codes "other form"

@@ -26,8 +26,6 @@ pub enum TextCause {
     TooMany,
     /// There are more bytes than a text may have.
     TooLong,
-    /// The text is not of the part of the grammar that is served.
-    OtherForm,
 }
 
 impl TextCause {
@@ -48,7 +46,6 @@ impl TextCause {
             TextCause::BusyCaller => "busy caller",
             TextCause::TooMany => "too many",
             TextCause::TooLong => "too long",
-            TextCause::OtherForm => "other form",
         }
     }
 }

@@ -1,5 +1,5 @@
 -- What was read is all of the input, or its front.
-use Rattle.std.proofs.Common.{◌≡◌, Bool, true, false, cond, Ok, Err, ℕ, ◌+◌, ◌≤◌, List, [], ◌++◌, length, take, Option, None, Some, Result, IfSome, sym, ap, subst, ◌∙◌, arith, inl, inr}
+use Rattle.std.proofs.Common.{◌≡◌, ℕ, ◌+◌, ◌≤◌, List, [], ◌++◌, length, take, Option, None, Some, Result, IfSome, sym, ap, subst, ◌∙◌, arith, inl, inr}
 use Rattle.std.specs.Io.KnownBytes.{Consumes, IsAtEnd}
 use Rattle.std.proofs.lemmas.Bool.{cases_lt}
 use Rattle.std.proofs.lemmas.List.{append-nil, take_at, take_all}
@@ -8,8 +8,6 @@ use Rattle.job_text.specs.declared.file.Unit.{Unit as JobUnit}
 use Rattle.text_lines.specs.Reading.{most_bytes}
 use Rattle.job_text.specs.Grammar.{jobs_of}
 use Rattle.job_text.proofs.GrammarLemmas.{jobs_of-take}
-use Rattle.bulk_dispatcher.specs.Served.{is_served}
-use Rattle.bqd.specs.Input.{file_of, served_of, other_form}
 
 -- what was read of a source with these bytes is their front, one byte longer than a text may be, or all of them
 pub front_is_read : (bytes rest input : List ℕ) → bytes ≡ input ++ rest → length input ≤ most_bytes + 1 → (length input ≤ most_bytes → rest ≡ []) → input ≡ take (most_bytes + 1) bytes
@@ -23,22 +21,12 @@ front_is_read bytes rest input e most whole =
     ]
 
 -- it has the same meaning as the whole
-pub file_of-input : (before after : Option (List ℕ)) (input : List ℕ) (n : ℕ) (is : Result (List JobUnit) TextFault) → Consumes before after input → n ≡ length input → n ≤ most_bytes + 1 → (n ≤ most_bytes → IsAtEnd after)
-    → file_of input ≡ is → IfSome before (λ bytes. file_of bytes ≡ is)
-file_of-input None after input n is e len most whole found = tt
-file_of-input (Some bytes) None input n is e len most whole found = absurd e
-file_of-input (Some bytes) (Some rest) input n is e len most whole found =
-    ap served_of (sym (jobs_of-take bytes)) ∙ ap file_of (sym (front_is_read bytes rest input e (omega arith) (λ short. whole (omega arith)))) ∙ found
-
--- the file that a text is, by whether it is run
-pub file_of-served : (input : List ℕ) (file : List JobUnit) → jobs_of input ≡ Ok file → is_served file ≡ true → file_of input ≡ Ok file
-file_of-served input file is served = ap served_of is ∙ ap (λ (b : Bool). cond b (Ok file) (Err other_form)) served
-
-pub file_of-other : (input : List ℕ) (file : List JobUnit) → jobs_of input ≡ Ok file → is_served file ≡ false → file_of input ≡ Err other_form
-file_of-other input file is served = ap served_of is ∙ ap (λ (b : Bool). cond b (Ok file) (Err other_form)) served
-
-pub file_of-fault : (input : List ℕ) (fault : TextFault) → jobs_of input ≡ Err fault → file_of input ≡ Err fault
-file_of-fault input fault is = ap served_of is
+pub jobs_of-input : (before after : Option (List ℕ)) (input : List ℕ) (n : ℕ) (is : Result (List JobUnit) TextFault) → Consumes before after input → n ≡ length input → n ≤ most_bytes + 1 → (n ≤ most_bytes → IsAtEnd after)
+    → jobs_of input ≡ is → IfSome before (λ bytes. jobs_of bytes ≡ is)
+jobs_of-input None after input n is e len most whole found = tt
+jobs_of-input (Some bytes) None input n is e len most whole found = absurd e
+jobs_of-input (Some bytes) (Some rest) input n is e len most whole found =
+    sym (jobs_of-take bytes) ∙ ap jobs_of (sym (front_is_read bytes rest input e (omega arith) (λ short. whole (omega arith)))) ∙ found
 
 pub consumes_front : (before after : Option (List ℕ)) (input : List ℕ) (n : ℕ) → Consumes before after input → n ≡ length input → n ≤ most_bytes + 1 → (n ≤ most_bytes → IsAtEnd after)
     → IfSome before (λ bytes. Consumes before after (take (most_bytes + 1) bytes))

@@ -8,7 +8,8 @@ use Rattle.text_lines.specs.Lines.{lines_of}
 use Rattle.text_lines.specs.Reading.{most_bytes, fault, whole_text}
 use Rattle.trace_text.specs.declared.verdict.Verdict.{Verdict}
 use Rattle.trace_text.specs.declared.verdict.Verdict.TheVariants.{Legal, Illegal}
-use Rattle.trace_text.specs.HistoryText.{History, ◌>>=◌, meaning, nothing_yet, history_at_end}
+use Rattle.text_lines.specs.Parts.{◌>>=◌}
+use Rattle.trace_text.specs.HistoryText.{History, meaning, nothing_yet, history_at_end}
 use Rattle.trace_text.specs.Verdicts.{verdict_of, verdict_in}
 use Rattle.trace_text.specs.Played.{Playing}
 use Rattle.trace_text.specs.ScheduleText.{play_meaning, machine_at_end}

@@ -3,9 +3,9 @@ pub mod Command
 pub mod Usage
 pub mod Line
 pub mod VerdictLine
+pub mod DrillLine
 pub mod Output
 pub mod Streams
-pub mod Input
 pub mod Due
 pub mod Causes
 pub mod Status

@@ -1,35 +1,79 @@
--- What a run of a job file answers.
-use Rattle.std.specs.Prelude.{◌≡◌, ◌≢◌, ℕ, List, Ok, Err, Result, IfSome}
+-- What is said of jobs that were run.
+use Rattle.std.specs.Prelude.{◌≡◌, ◌≢◌, ◌+◌, ◌<◌, ◌%◌, ℕ, List, All, Some, Ok, Err, Result, IfSome}
+use Rattle.std.specs.List.{AllZip}
 use Rattle.std.specs.Io.KnownBytes.{Appends, IsAtEnd}
 use Rattle.bq_model.specs.declared.group.Group.{Group}
+use Rattle.bq_model.specs.Own.{mine}
 use Rattle.job_text.specs.declared.file.Unit.{Unit as JobUnit}
+use Rattle.job_text.specs.Generator.{gen_of}
+use Rattle.job_text.specs.Grammar.{jobs_of}
 use Rattle.job_text.specs.Replies.{replies_of}
-use Rattle.bulk_dispatcher.specs.declared.done.Done.{Done}
 use Rattle.bulk_dispatcher.specs.declared.reply.Reply.{Reply}
-use Rattle.bulk_dispatcher.specs.Books.{BooksFit}
+use Rattle.bulk_dispatcher.specs.Books.{BooksFit, StandTogether, lanes_of, units_on}
+use Rattle.bulk_dispatcher.specs.Hands.{EndedEmpty}
 use Rattle.bulk_dispatcher.specs.Replies.{RepliesFit}
+use Rattle.bqd.specs.declared.command.Command.TheVariants.{Run, Drill}
 use Rattle.bqd.specs.declared.status.Status.{Status}
-use Rattle.bqd.specs.Input.{file_of}
+use Rattle.bqd.specs.declared.status.Status.TheVariants.{Done, Illegal, Usage, Refused, ReadFailed, WriteFailed, OutOfMemory}
+use Rattle.bqd.specs.DrillLine.{drill_line}
+use Rattle.bqd.specs.Output.{WroteFront}
 use Rattle.bqd.specs.Status.{number_of}
-use Rattle.bqd.specs.Streams.{Change, IsUntouched}
+use Rattle.bqd.specs.Streams.{Change, IsUntouched, IsFaulty}
 use Rattle.bqd.specs.Causes.{Call, IsExplained}
 
--- The jobs of these bytes were run: the replies are written, the lanes' books fit the file, and each reply names the
--- operation that got its job.
-pub record AreRun (out : Change) (replies : List Reply) (books : List (List Group)) (bytes : List ℕ) : Type 0 where
-  pub file : List JobUnit
-  pub is_read : file_of bytes ≡ Ok file
-  pub written : Appends out.before out.after (replies_of file)
-  pub books_fit : BooksFit file 2 books
+-- What the books of the lanes and the replies show of a file's jobs that so many hands ran, each of which made so many
+-- dequeues as one at its end.
+pub record JobsRan (file : List JobUnit) (hands batch : ℕ) (books : List (List Group)) (replies : List Reply) : Type 0 where
+  -- The lanes' books are histories that a single thread's queue gives, they are of the file's jobs, and they end empty.
+  pub books_fit : BooksFit file (hands + 1) books
+  -- There is one reply for each job, and it names the operation that got the job.
   pub replies_fit : RepliesFit file books replies
+  -- The units are dealt to the hands in turn.
+  pub dealt_in_turn : AllZip (λ lane book. All (λ unit. StandTogether (mine book (unit.place % hands)) unit.numbers) (units_on file lane)) (lanes_of file) books
+  -- Each hand ends on each lane where it finds nothing.
+  pub ended : AllZip (λ lane book. (c : ℕ) → c < hands → EndedEmpty batch c book) (lanes_of file) books
+
+-- The jobs of these bytes were run, and their replies are written.
+pub record AreRun (hands batch : ℕ) (out : Change) (books : List (List Group)) (replies : List Reply) (bytes : List ℕ) : Type 0 where
+  pub file : List JobUnit
+  pub is_read : jobs_of bytes ≡ Ok file
+  pub written : Appends out.before out.after (replies_of file)
+  pub ran : JobsRan file hands batch books replies
 
 -- the jobs of the whole input were run, and nothing but their replies was written
-pub record IsRun (call : Call) (replies : List Reply) (books : List (List Group)) : Type 0 where
+pub record IsRun (hands batch : ℕ) (call : Call) (books : List (List Group)) (replies : List Reply) : Type 0 where
   pub to_the_end : IsAtEnd call.source.after
-  pub run : IfSome call.source.before (AreRun call.out replies books)
+  pub run : IfSome call.source.before (AreRun hands batch call.out books replies)
   pub err_stays : IsUntouched call.err
 
--- a run that was done, or another status, each with its cause
-abbrev pub RunEnds : Call → Result Done Status → Type 0
-RunEnds call (Ok done) = IsRun call done.replies done.books × IsExplained 0 call
-RunEnds call (Err status) = (number_of status ≢ 0) × IsExplained (number_of status) call
+-- a call that did this to its streams, of words that are `run` with these numbers
+abbrev pub run_call : ℕ → ℕ → Change → Change → Change → Call
+run_call hands batch source out err = record { command = Some (Run hands batch); source = source; out = out; err = err }
+
+-- the jobs of the file that is made from a number were run, and one line was written of what came of it
+pub record IsDrill (jobs hands batch : ℕ) (call : Call) (books : List (List Group)) (replies : List Reply) : Type 0 where
+  pub ran : JobsRan (gen_of jobs) hands batch books replies
+  pub written : Appends call.out.before call.out.after (drill_line jobs)
+  pub source_stays : IsUntouched call.source
+  pub err_stays : IsUntouched call.err
+
+-- a call that did this to its streams, of words that are `drill` with these numbers
+abbrev pub drill_call : ℕ → ℕ → ℕ → Change → Change → Change → Call
+drill_call jobs hands batch source out err = record { command = Some (Drill jobs hands batch); source = source; out = out; err = err }
+
+-- A text that is due was written; or a write failed, and a front of it was written; or memory was lacking, and nothing
+-- was written.
+abbrev pub WritesDue : {A : Type 0} → List ℕ → Change → Result A Status → Type 0
+WritesDue text out (Ok a) = Appends out.before out.after text
+WritesDue text out (Err Done) = ⊥
+WritesDue text out (Err Illegal) = ⊥
+WritesDue text out (Err Usage) = ⊥
+WritesDue text out (Err Refused) = ⊥
+WritesDue text out (Err ReadFailed) = ⊥
+WritesDue text out (Err WriteFailed) = IsFaulty out × WroteFront out.before out.after text
+WritesDue text out (Err OutOfMemory) = IsUntouched out
+
+-- a call that comes to what it is to do, which is status 0, or to another status, each with its cause
+abbrev pub EndsWithCause : {A : Type 0} → Call → Result A Status → Type 0
+EndsWithCause call (Ok a) = IsExplained 0 call
+EndsWithCause call (Err status) = (number_of status ≢ 0) × IsExplained (number_of status) call

@@ -1,9 +1,15 @@
 // What the words of the command line ask for.
-ghost use Rattle.std.specs.Prelude.{◌≡◌, map};
+ghost use Rattle.std.specs.Prelude.{◌≡◌, map, IfSome};
 ghost use Rattle.std.specs.String.{string_bytes};
-ghost use Rattle.bqd.specs.Command.{command_in, alone, gen_in, is_one};
+ghost use Rattle.bqd.specs.Command.{command_in, alone, run_in, gen_in, drill_in, IsInRange};
 
 use text_lines::number_within;
+
+/// The most hands that a run has.
+const MOST_HANDS: u64 = 16;
+
+/// The most dequeues that a hand makes as one.
+const MOST_BATCH: u64 = 256;
 
 /// The most jobs of a file that is made up.
 const MOST_GENERATED: u64 = 500_000;
@@ -13,9 +19,9 @@ const MOST_GENERATED: u64 = 500_000;
 pub enum Command {
     /// Answers the jobs of a job file.
     Run {
-        /// How many threads answer jobs.
+        /// How many threads answer jobs, from 1 to 16.
         hands: u32,
-        /// How many operations at most go to a queue as one.
+        /// How many dequeues each of them makes as one once it has put its jobs, from 1 to 256.
         batch: u32,
     },
     /// Judges a history.
@@ -27,18 +33,27 @@ pub enum Command {
         /// How many jobs it has, at most 500,000.
         jobs: u32,
     },
+    /// Answers the jobs of the file that is made from a number, and prints one line of what came of it.
+    Drill {
+        /// How many jobs it has, at most 500,000.
+        jobs: u32,
+        /// How many threads answer jobs, from 1 to 16.
+        hands: u32,
+        /// How many dequeues each of them makes as one once it has put its jobs, from 1 to 256.
+        batch: u32,
+    },
 }
 
 /// The command that these words are, the words after the program's name. A name is compared letter by
 /// letter, and a number may have leading zeros.
 pub fn command_of(words: &[String]) -> Option<Command>
-    ensures { result ≡ command_in (map (λ w. string_bytes w) words.now) }
+    ensures meaning { result ≡ command_in (map (λ w. string_bytes w) words.now) }
+    ensures in_range { IfSome result IsInRange }
 {
     match words {
-        [name, hands, batch] if name.as_str() == "run" && is_one(hands) && is_one(batch) => {
-            Some(Command::Run { hands: 1, batch: 1 })
-        }
+        [name, hands, batch] if name.as_str() == "run" => run_of(hands, batch),
         [name, jobs] if name.as_str() == "gen" => gen_of(jobs),
+        [name, jobs, hands, batch] if name.as_str() == "drill" => drill_of(jobs, hands, batch),
         [name] => alone(name),
         _ => None,
     }
@@ -57,11 +72,30 @@ fn alone(name: &String) -> Option<Command>
     }
 }
 
-// Whether a word is a number of value 1.
-fn is_one(word: &String) -> bool
-    ensures { result ≡ is_one (string_bytes word.now) }
+// The command `run` with these numbers of hands and of dequeues.
+fn run_of(hands: &String, batch: &String) -> Option<Command>
+    ensures { result ≡ run_in (string_bytes hands.now) (string_bytes batch.now) }
 {
-    number_within(word.as_bytes(), 1, 1).is_some()
+    let hands = number_within(hands.as_bytes(), 1, MOST_HANDS)?;
+    let batch = number_within(batch.as_bytes(), 1, MOST_BATCH)?;
+    Some(Command::Run {
+        hands: hands as u32,
+        batch: batch as u32,
+    })
+}
+
+// The command `drill` with these numbers of jobs, of hands and of dequeues.
+fn drill_of(jobs: &String, hands: &String, batch: &String) -> Option<Command>
+    ensures { result ≡ drill_in (string_bytes jobs.now) (string_bytes hands.now) (string_bytes batch.now) }
+{
+    let jobs = number_within(jobs.as_bytes(), 0, MOST_GENERATED)?;
+    let hands = number_within(hands.as_bytes(), 1, MOST_HANDS)?;
+    let batch = number_within(batch.as_bytes(), 1, MOST_BATCH)?;
+    Some(Command::Drill {
+        jobs: jobs as u32,
+        hands: hands as u32,
+        batch: batch as u32,
+    })
 }
 
 // The command `gen` with this number of jobs.

@@ -1,17 +1,24 @@
+// What a call of the program leaves to its caller.
 ghost use Rattle.std.specs.Prelude.{◌≡◌, []};
 
 use crate::status::Status;
-use bq_model::Items;
+use bq_model::{Items, Lane};
 use bulk_dispatcher::{Done, Reply};
-use plain_lane::Book;
 use std::alloc::Global;
+use turn_lane::TurnLane;
 
-/// What a call of `top` leaves. Both lists are empty but where jobs were run and their replies written.
-#[derive(Debug, Drop)]
+/// The lane that serves jobs.
+pub type ServingLane = TurnLane;
+
+/// The whole history of a lane that served jobs.
+pub type Book = <ServingLane as Lane>::Book;
+
+/// What a call of `top` leaves. Both lists are empty but where jobs were run and what was due of them was written.
+#[derive(Drop)]
 pub struct Ended {
     /// The status that the program ends with.
     pub status: u8,
-    /// The replies that were written, by rising number of their jobs.
+    /// The replies to the jobs, by rising number of these.
     pub replies: Items<Reply>,
     /// The books of the lanes, by rising number.
     pub books: Items<Book>,
@@ -31,8 +38,8 @@ impl Ended {
         }
     }
 
-    /// A call whose jobs were run and whose replies were written.
-    pub(crate) fn with(done: Done) -> Ended
+    /// A call whose jobs were run.
+    pub(crate) fn with(done: Done<ServingLane>) -> Ended
         ensures status { result.status ≡ 0 }
         ensures replies { result.replies ≡ done.replies }
         ensures books { result.books ≡ done.books }

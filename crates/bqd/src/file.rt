@@ -1,15 +1,13 @@
 // The job file that a source has.
-ghost use Rattle.std.specs.Prelude.{◌≡◌, ◌+◌, ◌≤◌, true, Ok, Err, IfOk, IfSome, OnOk, is_some, take};
+ghost use Rattle.std.specs.Prelude.{◌≡◌, ◌+◌, ◌≤◌, Ok, Err, IfOk, IfSome, OnOk, is_some, take};
 ghost use Rattle.std.specs.Io.KnownBytes.{Consumes, IsAtEnd};
 ghost use Rattle.bq_model.specs.Device.{Rose};
 ghost use Rattle.text_lines.specs.Reading.{most_bytes};
-ghost use Rattle.bulk_dispatcher.specs.Served.{is_served};
-ghost use Rattle.bqd.specs.Input.{file_of};
+ghost use Rattle.job_text.specs.Grammar.{jobs_of};
 ghost use Rattle.bq_model.specs.declared.fault.TextFault.{TextFault};
 
 use crate::input::{InputFault, read_input};
-use bq_model::{Source, TextCause, TextFault, TextRefused};
-use bulk_dispatcher::is_served;
+use bq_model::{Source, TextFault, TextRefused};
 use job_text::{JobFile, read_jobs};
 use std::alloc::Global;
 
@@ -24,19 +22,12 @@ pub enum FileFault {
     Text(TextFault),
 }
 
-/// The fault of a job file that is not run.
-const OTHER_FORM: TextFault = TextFault {
-    line: 0,
-    cause: TextCause::OtherForm,
-};
-
 /// Reads a job file from the source, which is read to its end or to one byte more than a text may have.
 pub fn read_file<S: Source>(alloc: Global, source: &mut S) -> Result<JobFile, FileFault>
-    ensures file { IfOk result (λ file. IfSome (S.left source.old) (λ bytes. file_of bytes ≡ Ok file)) }
-    ensures served { IfOk result (λ file. is_served file ≡ true) }
+    ensures file { IfOk result (λ file. IfSome (S.left source.old) (λ bytes. jobs_of bytes ≡ Ok file)) }
     ensures to_the_end { OnOk result (IsAtEnd (S.left source.new)) }
     ensures fault { (fault : TextFault) → result ≡ Err (FileFault.Text fault)
-        → IfSome (S.left source.old) (λ bytes. file_of bytes ≡ Err fault) }
+        → IfSome (S.left source.old) (λ bytes. jobs_of bytes ≡ Err fault) }
     ensures fault_is_seen { (fault : TextFault) → result ≡ Err (FileFault.Text fault)
         → IfSome (S.left source.old) (λ bytes. Consumes (S.left source.old) (S.left source.new) (take (most_bytes + 1) bytes)) }
     ensures failed_is_counted { result ≡ Err FileFault.Failed → Rose (S.faults source.old) (S.faults source.new) }
@@ -49,13 +40,7 @@ pub fn read_file<S: Source>(alloc: Global, source: &mut S) -> Result<JobFile, Fi
         Err(InputFault::Memory) => return Err(FileFault::Memory),
     };
     match read_jobs(alloc, bytes.as_slice()) {
-        Ok(file) => {
-            if is_served(&file) {
-                Ok(file)
-            } else {
-                Err(FileFault::Text(OTHER_FORM))
-            }
-        }
+        Ok(file) => Ok(file),
         Err(TextRefused::Text(fault)) => Err(FileFault::Text(fault)),
         Err(TextRefused::Memory) => Err(FileFault::Memory),
     }

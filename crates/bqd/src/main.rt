@@ -6,13 +6,21 @@
 //! line that tells the fault of a text, `verdict_line` the one that tells a verdict. The texts that a user sees and the causes of the statuses stand in `specs/`.
 #![tactic(auto)]
 
+#[cfg(test)]
+mod cases;
 mod command;
+mod drill;
+mod drill_line;
 mod ended;
 mod file;
 mod input;
+mod jobs;
 mod line;
 mod output;
 mod replies;
+mod run;
+#[cfg(test)]
+mod run_tests;
 mod status;
 mod still;
 #[cfg(test)]

@@ -1,3 +1,4 @@
+// The statuses of the program.
 ghost use Rattle.std.specs.Prelude.{◌≡◌};
 
 /// How a call of the program ends, as the number that the system is told.

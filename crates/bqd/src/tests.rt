@@ -1,3 +1,4 @@
+// Words that are commands, lines as they are printed, and streams that come in pieces or fail.
 use crate::command::{Command, command_of};
 use crate::input::{InputFault, MAX_READ, read_input};
 use crate::line::fault_line;
@@ -93,23 +94,49 @@ fn words(alloc: Global, texts: &[&str]) -> Result<Vec<String>, AllocError> {
 }
 
 #[test]
-fn run_1_1_and_gen_are_commands(rt: HostRuntime) -> Result<(), Fail> {
-    let run = Some(Command::Run { hands: 1, batch: 1 });
-    let none: [&str; 0] = [];
-    assert_eq!(rt; command_of(&words(rt.alloc(), &["run", "1", "1"])?), run);
-    assert_eq!(rt; command_of(&words(rt.alloc(), &none)?), None);
-    assert_eq!(rt; command_of(&words(rt.alloc(), &["run", "1"])?), None);
-    assert_eq!(rt; command_of(&words(rt.alloc(), &["run", "01", "1"])?), run);
-    assert_eq!(rt; command_of(&words(rt.alloc(), &["run", "1", "+1"])?), None);
-    assert_eq!(rt; command_of(&words(rt.alloc(), &["run", "1", "2"])?), None);
-    assert_eq!(rt; command_of(&words(rt.alloc(), &["Run", "1", "1"])?), None);
-    assert_eq!(rt;
-        command_of(&words(rt.alloc(), &["run", "1", "1", "1"])?),
-        None
-    );
-    let gen_7 = Some(Command::Gen { jobs: 7 });
-    assert_eq!(rt; command_of(&words(rt.alloc(), &["gen", "007"])?), gen_7);
-    assert_eq!(rt; command_of(&words(rt.alloc(), &["gen", "500001"])?), None);
+fn words_are_commands_or_none(rt: HostRuntime) -> Result<(), Fail> {
+    let table: [(&[&str], Option<Command>); 18] = [
+        (
+            &["run", "1", "1"],
+            Some(Command::Run { hands: 1, batch: 1 }),
+        ),
+        (
+            &["run", "01", "1"],
+            Some(Command::Run { hands: 1, batch: 1 }),
+        ),
+        (
+            &["run", "16", "256"],
+            Some(Command::Run {
+                hands: 16,
+                batch: 256,
+            }),
+        ),
+        (&["run", "0", "1"], None),
+        (&["run", "17", "1"], None),
+        (&["run", "1", "0"], None),
+        (&["run", "1", "257"], None),
+        (&["run", "1", "+1"], None),
+        (&["run", "1"], None),
+        (&["run", "1", "1", "1"], None),
+        (&["Run", "1", "1"], None),
+        (&["gen", "007"], Some(Command::Gen { jobs: 7 })),
+        (&["gen", "500001"], None),
+        (
+            &["drill", "0", "2", "256"],
+            Some(Command::Drill {
+                jobs: 0,
+                hands: 2,
+                batch: 256,
+            }),
+        ),
+        (&["drill", "500001", "2", "1"], None),
+        (&["drill", "1", "17", "1"], None),
+        (&["drill", "1", "1"], None),
+        (&[], None),
+    ];
+    for (texts, wanted) in table {
+        assert_eq!(rt; command_of(&words(rt.alloc(), texts)?), wanted);
+    }
     Ok(())
 }
 
@@ -124,7 +151,7 @@ fn lines_read_as_they_should(rt: HostRuntime) {
             TextCause::BlockTooLong,
             "bqd: line 103: block too long\n",
         ),
-        (0, TextCause::OtherForm, "bqd: line 0: other form\n"),
+        (0, TextCause::TooLong, "bqd: line 0: too long\n"),
         (
             4294967295,
             TextCause::BusyCaller,

@@ -1,127 +1,22 @@
 // The program over streams in memory.
-use crate::ended::Ended;
-use crate::top::top;
-use bq_model::{MemorySink, MemorySource};
-use bulk_dispatcher::{Gate, NoGate};
+use crate::cases::{Case, RUN, made, made_past, quiet_case};
+use bulk_dispatcher::Gate;
 use std::alloc::{AllocError, Global};
-use std::process::Abort;
 use std::sync::atomic::{AtomicU64, Ordering};
 use std::test::Fail;
-use std::thread::Threads;
-
-/// The words of a command, and the line for words that are none.
-const RUN: &[&str] = &["run", "1", "1"];
 
 const USAGE: &[u8] =
     b"usage: bqd run <hands> <batch> | check | play | gen <n> | drill <n> <hands> <batch>\n";
 
-const OTHER_FORM: &[u8] = b"bqd: line 0: other form\n";
-
 const TWO_LINES: &[u8] = b"bqjobs 1\njob 0 sum 2 3\n";
-
-/// A call of the program with an input that comes in pieces, of which some reads and writes fail, and what the call
-/// must leave.
-#[derive(Clone, Copy)]
-struct Case<'a> {
-    words: &'a [&'a str],
-    input: &'a [u8],
-    read_piece: usize,
-    failing_reads: &'a [u64],
-    write_piece: usize,
-    failing_writes: &'a [u64],
-    failing_lines: &'a [u64],
-    status: u8,
-    /// Whether the input is not read.
-    kept: bool,
-    out: &'a [u8],
-    err: &'a [u8],
-}
-
-/// A call of which nothing fails.
-fn quiet_case<'a>(
-    words: &'a [&'a str],
-    input: &'a [u8],
-    status: u8,
-    out: &'a [u8],
-    err: &'a [u8],
-) -> Case<'a> {
-    Case {
-        words,
-        input,
-        read_piece: 1000,
-        failing_reads: &[],
-        write_piece: 1000,
-        failing_writes: &[],
-        failing_lines: &[],
-        status,
-        kept: status == 2,
-        out,
-        err,
-    }
-}
 
 /// A call of the generator, which reads no input.
 fn gen_case<'a>(words: &'a [&'a str], out: &'a [u8]) -> Case<'a> {
     Case {
         kept: true,
+        lists: false,
         ..quiet_case(words, TWO_LINES, 0, out, b"")
     }
-}
-
-fn texts(alloc: Global, words: &[&str]) -> Result<Vec<String>, AllocError> {
-    let mut texts = Vec::new(alloc);
-    for word in words {
-        texts.push(String::from_str(alloc, word)?)?;
-    }
-    Ok(texts)
-}
-
-/// A source of the input, and sinks for the output and for the line of an error.
-fn streams(alloc: Global, case: &Case<'_>) -> Result<(MemorySource, MemorySink, MemorySink), Fail> {
-    let bytes = case.input.to_vec(alloc)?;
-    let reads = case.failing_reads.to_vec(alloc)?;
-    let source = MemorySource::new(bytes, case.read_piece.max(1), reads);
-    let writes = case.failing_writes.to_vec(alloc)?;
-    let out = MemorySink::new(alloc, 1 << 20, case.write_piece.max(1), writes)?;
-    let lines = case.failing_lines.to_vec(alloc)?;
-    let err = MemorySink::new(alloc, 1 << 10, 1000, lines)?;
-    Ok((source, out, err))
-}
-
-/// Makes the call, and demands that it leaves what it must.
-fn made<R: Threads + Abort + Sync>(rt: &R, alloc: Global, case: &Case<'_>) -> Result<Ended, Fail> {
-    made_past(rt, alloc, case, &NoGate)
-}
-
-/// The same, with a gate that the hand passes.
-fn made_past<R: Threads + Abort + Sync, G: Gate>(
-    rt: &R,
-    alloc: Global,
-    case: &Case<'_>,
-    gate: &G,
-) -> Result<Ended, Fail> {
-    let words = texts(alloc, case.words)?;
-    let (mut source, mut out, mut err) = streams(alloc, case)?;
-    let ended = top(rt, alloc, &words, &mut source, &mut out, &mut err, gate);
-    assert!(rt;
-        ended.status == case.status,
-        "the status is {}",
-        ended.status
-    );
-    assert!(rt; out.bytes() == case.out, "what was written");
-    assert!(rt; err.bytes() == case.err, "the line of the error");
-    if case.kept {
-        assert!(rt; source.left() == case.input, "the input is untouched");
-    } else if case.status == 0 {
-        assert!(rt; source.left().is_empty(), "the input was read to its end");
-    }
-    if case.kept || case.status != 0 {
-        assert!(rt;
-            ended.replies.is_empty() && ended.books.is_empty(),
-            "no lists"
-        );
-    }
-    Ok(ended)
 }
 
 #[test]
@@ -136,7 +31,8 @@ fn two_lines_are_answered(rt: HostRuntime) -> Result<(), Fail> {
     assert_eq!(rt; replies.len(), 1);
     let reply = &replies[0];
     assert!(rt; reply.job() == 0 && reply.lane() == 0);
-    assert!(rt; reply.caller() == 0 && reply.serial() == 1);
+    // Its unit was a dequeue, which found nothing, and its enqueue.
+    assert!(rt; reply.caller() == 0 && reply.serial() == 2);
     assert!(rt; reply.text().as_slice() == b"5".as_slice());
     Ok(())
 }
@@ -197,7 +93,7 @@ fn every_kind_of_job_is_answered(rt: HostRuntime) -> Result<(), Fail> {
 
 #[test]
 fn faults_are_told_by_line_and_cause(rt: HostRuntime) -> Result<(), Fail> {
-    let table: [(&[u8], &[u8]); 10] = [
+    let table: [(&[u8], &[u8]); 7] = [
         (b"", b"bqd: line 1: no header\n"),
         (b"bqjobs 1\njob 16 sum\n", b"bqd: line 2: bad lane\n"),
         (b"bqjobs 1\njob 0 sum\r\n", b"bqd: line 2: not text\n"),
@@ -210,9 +106,6 @@ fn faults_are_told_by_line_and_cause(rt: HostRuntime) -> Result<(), Fail> {
             b"bqd: line 2: bad number\n",
         ),
         (b"bqjobs 1\njob 0 sum 1\nwork\n", b"bqd: line 3: bad word\n"),
-        (b"bqjobs 1\njob 1 sum 2\n", OTHER_FORM),
-        (b"bqjobs 1\nblock 0\nput sum\nput sum\nend\n", OTHER_FORM),
-        (b"bqjobs 1\njob 0 sum\nblock 15\nput sum\nend\n", OTHER_FORM),
         (
             b"bqjobs 1\njob 1 sum 2\njob 0 sum x\n",
             b"bqd: line 3: bad number\n",
@@ -224,21 +117,23 @@ fn faults_are_told_by_line_and_cause(rt: HostRuntime) -> Result<(), Fail> {
     Ok(())
 }
 
-/// A block of so many puts.
-fn puts(alloc: Global, count: u32) -> Result<Vec<u8>, AllocError> {
+/// A block of so many puts, and the replies to them.
+fn puts(alloc: Global, count: u32) -> Result<(Vec<u8>, Vec<u8>), AllocError> {
     let mut input = Vec::from_slice(alloc, b"bqjobs 1\nblock 0\n")?;
-    for _ in 0..count {
+    let mut wanted = Vec::new(alloc);
+    for i in 0..count {
         input.extend_from_slice(b"put sum\n")?;
+        wanted.extend_from_slice(format!(in alloc; "{i} 0\n")?.as_bytes())?;
     }
     input.extend_from_slice(b"end\n")?;
-    Ok(input)
+    Ok((input, wanted))
 }
 
 #[test]
 fn a_block_has_at_most_100_jobs(rt: HostRuntime) -> Result<(), Fail> {
-    let most = puts(rt.alloc(), 100)?;
-    made(&rt, rt.alloc(), &quiet_case(RUN, &most, 3, b"", OTHER_FORM))?;
-    let more = puts(rt.alloc(), 101)?;
+    let (most, wanted) = puts(rt.alloc(), 100)?;
+    made(&rt, rt.alloc(), &quiet_case(RUN, &most, 0, &wanted, b""))?;
+    let (more, _) = puts(rt.alloc(), 101)?;
     let line = b"bqd: line 103: block too long\n";
     made(&rt, rt.alloc(), &quiet_case(RUN, &more, 3, b"", line))?;
     Ok(())
@@ -246,8 +141,9 @@ fn a_block_has_at_most_100_jobs(rt: HostRuntime) -> Result<(), Fail> {
 
 #[test]
 fn other_words_get_the_usage_line(rt: HostRuntime) -> Result<(), Fail> {
-    let table: [&[&str]; 10] = [
+    let table: [&[&str]; 11] = [
         &[],
+        &["drill", "1", "1"],
         &["run", "0", "1"],
         &["run", "17", "1"],
         &["run", "1", "257"],

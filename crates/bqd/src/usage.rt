@@ -1,3 +1,4 @@
+// The line for words that are no command.
 ghost use Rattle.std.specs.Prelude.{◌≡◌};
 ghost use Rattle.bqd.specs.Usage.{usage_text};
 

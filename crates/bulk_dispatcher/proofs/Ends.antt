@@ -15,10 +15,10 @@ use Rattle.bulk_dispatcher.proofs.Fit.{BooksFit-done}
 use Rattle.bulk_dispatcher.proofs.Sorted.{RepliesFit-done}
 use Rattle.bulk_dispatcher.proofs.Closed.{HandDone-saw_more, pieces_at}
 
-no_run : Run
+pub no_run : Run
 no_run = record { seen = []; replies = [] }
 
-abbrev by_hand : List Run → ℕ → List Reply
+abbrev pub by_hand : List Run → ℕ → List Reply
 by_hand runs c = (get_or runs c no_run).replies
 
 at_hand : {X : Type 0} (R : ℕ → X → Type 0) (xs : List X) (d : X) (c : ℕ) → c < length xs → AllZip R (range_with_len 0 (length xs)) xs → R c (get_or xs c d)
@@ -26,7 +26,7 @@ at_hand R xs d c l h =
     subst (λ k. R k (get_or xs c d)) (get_or-range_with_len 0 (length xs) c 0 l ∙ zero-add c)
     (zip_at R (range_with_len 0 (length xs)) xs c 0 d h (rw length-range_with_len l))
 
-all_done : (file : List JobUnit) (hands batch : ℕ) (runs : List Run) (books : List (List Group)) → length runs ≡ hands → HandsRan file hands batch 0 runs → LanesClosed file hands runs books → AllDone file hands batch books (by_hand runs)
+pub all_done : (file : List JobUnit) (hands batch : ℕ) (runs : List Run) (books : List (List Group)) → length runs ≡ hands → HandsRan file hands batch 0 runs → LanesClosed file hands runs books → AllDone file hands batch books (by_hand runs)
 all_done file hands batch runs books e ran closed = record {
   proper = closed.proper;
   idle = closed.idle;

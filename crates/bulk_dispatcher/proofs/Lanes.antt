@@ -1,12 +1,12 @@
 -- The lanes of a file.
-use Rattle.std.proofs.Common.{◌≡◌, ℕ, zero, suc, ◌+◌, ◌<◌, ◌≤◌, ◌==◌, ◌||◌, Bool, true, false, cond, List, [], ◌∷◌, length, filter, get_or, refl, sym, ap, subst, ◌∙◌, arith, zero-add, Contains, inl, inr}
+use Rattle.std.proofs.Common.{◌≡◌, ℕ, zero, suc, ◌+◌, ◌<◌, ◌≤◌, ◌==◌, ◌||◌, Bool, true, false, cond, List, [], ◌∷◌, ◌++◌, length, filter, get_or, refl, sym, ap, subst, ◌∙◌, arith, zero-add, All, Contains, AllPairs, eq-eqb, inl, inr}
 use Rattle.std.specs.List.{range_with_len, list_any, zip, AllByRecursion}
 use Rattle.std.proofs.lemmas.Bool.{cases_Bool}
-use Rattle.std.proofs.lemmas.List.{get_or_default}
+use Rattle.std.proofs.lemmas.List.{get_or_default, append-nil}
 use Rattle.std.proofs.lemmas.List.FromFn.{length-range_with_len, get_or-range_with_len}
-use Rattle.std.proofs.lemmas.List.Elements.{All-from_recursion, recursion_from_All, All-contains, All-filter, filter_passes, Contains-append_right}
+use Rattle.std.proofs.lemmas.List.Elements.{All-get_or, All-weaker, All-from_recursion, recursion_from_All, All-contains, All-filter, filter-append, filter_passes, Contains-append_right}
 use Rattle.job_text.specs.declared.file.Unit.{Unit as JobUnit}
-use Rattle.bulk_dispatcher.specs.Books.{Numbered, numbered_from, lanes_of}
+use Rattle.bulk_dispatcher.specs.Books.{Numbered, numbered_from, lanes_of, Climbs}
 
 abbrev pub occurs : List JobUnit → ℕ → Bool
 occurs file lane = list_any (λ unit. unit.lane == lane) file
@@ -51,11 +51,6 @@ pub lanes_below : (u n : ℕ) (file : List JobUnit) → AllByRecursion (λ (unit
 lanes_below u n [] h = tt
 lanes_below u n (unit ∷ units) h = (h.0, lanes_below (u + 1) (n + length unit.jobs) units h.1)
 
--- each lane number is less than those behind it
-abbrev pub Climbs : List ℕ → Type 0
-Climbs [] = Unit {0}
-Climbs (x ∷ xs) = AllByRecursion (λ y. x < y) xs × Climbs xs
-
 climbs_range : (a n : ℕ) → Climbs (range_with_len a n)
 climbs_range a zero = tt
 climbs_range a (suc n) = (range_all (λ y. a < y) (a + 1) n (λ k l m. omega (arith, l)), climbs_range (a + 1) n)
@@ -90,3 +85,61 @@ one_beside_at (x ∷ xs) (y ∷ ys) (suc i) (suc j) p q d h l m e f same = one_b
 pub one_beside : {B : Type 0} (xs : List ℕ) (ys : List B) (p q : ℕ × B) → Climbs xs → Contains (zip xs ys) p → Contains (zip xs ys) q → p.0 ≡ q.0 → p ≡ q
 one_beside xs ys p q h c d same =
     one_beside_at xs ys c.0 d.0 p q p h c.1 d.1 c.2 (get_or_default (zip xs ys) d.0 p q d.1 ∙ d.2) same
+
+pub climbs_pairs : (xs : List ℕ) → Climbs xs → AllPairs (λ x y. x < y) xs
+climbs_pairs xs h i j d l m = at_both xs h i j l m
+  where
+    at_both : (xs : List ℕ) → Climbs xs → (i j : ℕ) → i < j → j < length xs → get_or xs i d < get_or xs j d
+    at_both [] h i j l m = absurd (omega (arith, m))
+    at_both (x ∷ xs) h i zero l m = absurd (omega (arith, l))
+    at_both (x ∷ xs) h zero (suc j) l m = All-get_or (λ y. x < y) xs j d (omega (arith, m)) (All-from_recursion (λ y. x < y) xs h.0)
+    at_both (x ∷ xs) h (suc i) (suc j) l m = at_both xs h.1 i j (omega (arith, l)) (omega (arith, m))
+
+-- the numbers of lanes that occur, of those below n
+unfoldable pub lanes_below_number : List JobUnit → ℕ → List ℕ
+lanes_below_number file n = filter (occurs file) (range_with_len 0 n)
+
+pub lanes_below_none : (file : List JobUnit) → lanes_below_number file 0 ≡ []
+unfolding lanes_below_number
+lanes_below_none file = refl
+
+range_last : (a n : ℕ) → range_with_len a (suc n) ≡ range_with_len a n ++ (a + n) ∷ []
+range_last a zero = ap (λ (x : ℕ). x ∷ []) (omega arith)
+range_last a (suc n) = ap (λ (xs : List ℕ). a ∷ xs) (range_last (a + 1) n ∙ ap (λ (x : ℕ). range_with_len (a + 1) n ++ x ∷ []) (omega arith))
+
+pub lanes_below_more : (file : List JobUnit) (n : ℕ) (before after : List ℕ) (wanted : Bool) → before ≡ lanes_below_number file n → wanted ≡ occurs file n → after ≡ cond wanted (before ++ n ∷ []) before → after ≡ lanes_below_number file (n + 1)
+unfolding lanes_below_number
+lanes_below_more file n before after wanted b w e =
+    let step : range_with_len 0 (n + 1) ≡ range_with_len 0 n ++ n ∷ [] = ap (range_with_len 0) (let s : n + 1 ≡ suc n = omega arith in s) ∙ range_last 0 n ∙ ap (λ (k : ℕ). range_with_len 0 n ++ k ∷ []) (zero-add n) in
+    e ∙ (λ i. cond (w i) (b i ++ n ∷ []) (b i)) ∙ pick (occurs file n) ∙ sym (filter-append (occurs file) (range_with_len 0 n) (n ∷ [])) ∙ ap (filter (occurs file)) (sym step)
+  where
+    pick : (c : Bool) → cond c (filter (occurs file) (range_with_len 0 n) ++ n ∷ []) (filter (occurs file) (range_with_len 0 n)) ≡ filter (occurs file) (range_with_len 0 n) ++ cond c (n ∷ []) []
+    pick true = refl
+    pick false = sym (append-nil (filter (occurs file) (range_with_len 0 n)))
+
+pub lanes_below_all : (file : List JobUnit) (n : ℕ) → n ≡ 16 → lanes_below_number file n ≡ lanes_of file
+unfolding lanes_below_number
+lanes_below_all file n e = ap (λ (k : ℕ). filter (occurs file) (range_with_len 0 k)) e
+
+-- numbers that are a file's lanes
+pub rise_of : (file : List JobUnit) (ns : List ℕ) → ns ≡ lanes_of file → AllPairs (λ x y. x < y) ns
+rise_of file ns e = subst (AllPairs (λ x y. x < y)) (sym e) (climbs_pairs (lanes_of file) (climbs file))
+
+pub climb_of : (file : List JobUnit) (ns : List ℕ) → ns ≡ lanes_of file → Climbs ns
+climb_of file ns e = subst Climbs (sym e) (climbs file)
+
+pub low_of : (file : List JobUnit) (ns : List ℕ) → ns ≡ lanes_of file → All (λ n. n ≤ 15) ns
+low_of file ns e = subst (All (λ n. n ≤ 15)) (sym e) (All-weaker (λ n. n < 16) (λ n. n ≤ 15) (λ n l. omega (arith, l)) (lanes_of file) (All-filter (occurs file) (λ k. k < 16) (range_with_len 0 16) (All-from_recursion (λ k. k < 16) (range_with_len 0 16) (range_all (λ k. k < 16) 0 16 (λ k l m. m)))))
+
+unit_occurs : (file : List JobUnit) (k : ℕ) (d : JobUnit) → k < length file → occurs file (get_or file k d).lane ≡ true
+unit_occurs [] k d l = absurd (omega (arith, l))
+unit_occurs (u ∷ file) zero d l = ap (λ b. b || occurs file u.lane) (eq-eqb u.lane u.lane refl)
+unit_occurs (u ∷ file) (suc k) d l = either (u.lane == (get_or file k d).lane) (occurs file (get_or file k d).lane) (unit_occurs file k d (omega (arith, l)))
+  where
+    either : (a b : Bool) → b ≡ true → (a || b) ≡ true
+    either true b e = refl
+    either false b e = e
+
+pub known_of : (file : List JobUnit) (ns : List ℕ) → ns ≡ lanes_of file → AllByRecursion (λ (unit : JobUnit). unit.lane < 16) file → All (λ (unit : JobUnit). Contains ns unit.lane) file
+known_of file ns e low k d l =
+    subst (λ ms. Contains ms (get_or file k d).lane) (sym e) (lane_kept file (get_or file k d).lane (All-get_or (λ (unit : JobUnit). unit.lane < 16) file k d l (All-from_recursion (λ (unit : JobUnit). unit.lane < 16) file low)) (unit_occurs file k d l))

@@ -1,6 +1,3 @@
-pub mod TurnsLemmas
-pub mod BooksLemmas
-pub mod RepliesLemmas
 pub mod Parts
 pub mod Fifo
 pub mod Emptied
@@ -25,3 +22,9 @@ pub mod Updates
 pub mod Example
 pub mod Lines
 pub mod Gathered
+pub mod Places
+pub mod Progress
+pub mod Ranks
+pub mod Apart
+pub mod Rounds
+pub mod Finish

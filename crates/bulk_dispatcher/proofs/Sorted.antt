@@ -22,7 +22,8 @@ use Rattle.bulk_dispatcher.proofs.Parts.{IsPermutation-parts}
 use Rattle.bulk_dispatcher.proofs.Catches.{same_answer, map_all}
 use Rattle.bulk_dispatcher.proofs.Numbers.{numbers_in_order}
 use Rattle.bulk_dispatcher.proofs.InOrder.{range_from_sort, pieces_moved}
-use Rattle.bulk_dispatcher.proofs.Lanes.{occurs, lane_kept, lane_below, no_units, lanes_below, Climbs, climbs, one_beside}
+use Rattle.bulk_dispatcher.specs.Books.{Climbs}
+use Rattle.bulk_dispatcher.proofs.Lanes.{occurs, lane_kept, lane_below, no_units, lanes_below, climbs, one_beside}
 use Rattle.bulk_dispatcher.proofs.AllReplied.{of_all, on, LaneReplied, lanes_replied, lane_once, Names, all_named, on_lanes, none_on}
 
 -- on any lane number, the replies are to the jobs

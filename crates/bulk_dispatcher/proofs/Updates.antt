@@ -12,9 +12,9 @@ use Rattle.job_text.specs.declared.file.Unit.{Unit as JobUnit}
 use Rattle.job_text.specs.JobFile.{job_at}
 use Rattle.bulk_dispatcher.specs.declared.reply.Reply.{Reply}
 use Rattle.bq_model.specs.Grows.{Grew}
-use Rattle.bulk_dispatcher.specs.Hands.{Catch, caught, caught_from, reply_for, replies_on}
+use Rattle.bulk_dispatcher.specs.Hands.{Catch, caught, caught_from, new_replies, reply_for, replies_on}
 use Rattle.bulk_dispatcher.proofs.Steps.{caught-grew, caught_from-append}
-use Rattle.bulk_dispatcher.proofs.Lanes.{Climbs}
+use Rattle.bulk_dispatcher.specs.Books.{Climbs}
 use Rattle.bulk_dispatcher.proofs.Zips.{zip_at}
 use Rattle.job_work.specs.declared.job.Job.{Job}
 
@@ -48,15 +48,11 @@ differ (x ∷ xs) zero (suc k) d h l m n = λ e. absurd (let up = above_at x xs 
 differ (x ∷ xs) (suc j) zero d h l m n = λ e. absurd (let up = above_at x xs j d h.0 (omega (arith, l)) in omega (arith, up, e))
 differ (x ∷ xs) (suc j) (suc k) d h l m n = differ xs j k d h.1 (omega (arith, l)) (omega (arith, m)) (λ e. n (omega (arith, e)))
 
--- the replies of a call on a lane
-abbrev pub new_replies : List JobUnit → ℕ → ℕ → ℕ → List Answer → List Reply
-new_replies file lane c made answers = filter_map (λ x. reply_for lane c x (job_at file x.value)) (caught_from made answers)
-
-of_lane : (lane : ℕ) (replies : List Reply) → AllByRecursion (λ (r : Reply). r.lane ≡ lane) replies → filter (λ (r : Reply). r.lane == lane) replies ≡ replies
+pub of_lane : (lane : ℕ) (replies : List Reply) → AllByRecursion (λ (r : Reply). r.lane ≡ lane) replies → filter (λ (r : Reply). r.lane == lane) replies ≡ replies
 of_lane lane [] h = refl
 of_lane lane (r ∷ rs) h = let e : (r.lane == lane) ≡ true = eq-eqb r.lane lane h.0 in rw e (ap (λ xs. r ∷ xs) (of_lane lane rs h.1))
 
-of_other : (lane other : ℕ) (replies : List Reply) → lane ≢ other → AllByRecursion (λ (r : Reply). r.lane ≡ lane) replies → filter (λ (r : Reply). r.lane == other) replies ≡ []
+pub of_other : (lane other : ℕ) (replies : List Reply) → lane ≢ other → AllByRecursion (λ (r : Reply). r.lane ≡ lane) replies → filter (λ (r : Reply). r.lane == other) replies ≡ []
 of_other lane other [] n h = refl
 of_other lane other (r ∷ rs) n h = let e : (r.lane == other) ≡ false = ne_eqb r.lane other (λ same. n (sym h.0 ∙ same)) in rw e (of_other lane other rs n h.1)
 
@@ -64,7 +60,7 @@ one_on_lane : (lane c : ℕ) (x : Catch) (found : Option (ℕ × Job)) (rest : L
 one_on_lane lane c x None rest h = h
 one_on_lane lane c x (Some found) rest h = (refl, h)
 
-all_on_lane : (file : List JobUnit) (lane c : ℕ) (catches : List Catch) → AllByRecursion (λ (r : Reply). r.lane ≡ lane) (filter_map (λ x. reply_for lane c x (job_at file x.value)) catches)
+pub all_on_lane : (file : List JobUnit) (lane c : ℕ) (catches : List Catch) → AllByRecursion (λ (r : Reply). r.lane ≡ lane) (filter_map (λ x. reply_for lane c x (job_at file x.value)) catches)
 all_on_lane file lane c [] = tt
 all_on_lane file lane c (x ∷ xs) = one_on_lane lane c x (job_at file x.value) (filter_map (λ y. reply_for lane c y (job_at file y.value)) xs) (all_on_lane file lane c xs)
 

@@ -1,5 +1,5 @@
 -- What one hand does on one lane, as the hand itself has seen it.
-use Rattle.std.specs.Prelude.{◌≡◌, ℕ, ◌+◌, ◌<◌, Option, Some, None, ◌%◌, ◌==◌, ◌⊎◌, List, [], ◌∷◌, ◌++◌, length, map, filter, replicate, Contains, All}
+use Rattle.std.specs.Prelude.{◌≡◌, ℕ, ◌+◌, ◌<◌, Option, Some, None, ◌%◌, ◌==◌, ◌⊎◌, List, [], ◌∷◌, ◌++◌, length, map, filter, replicate, Contains, All, slice_index, slice_index_or, slice_set}
 use Rattle.std.specs.List.{flat_map, zip, filter_map, range_with_len, AllZip}
 use Rattle.bq_model.specs.declared.op.Op.TheVariants.{Deq}
 use Rattle.bq_model.specs.declared.op.Answer.{Answer}
@@ -108,3 +108,40 @@ pub record LanesClosed (file : List JobUnit) (hands : ℕ) (runs : List Run) (bo
   pub proper : AllZip (λ lane book. IsProper (hands + 1) book) (lanes_of file) books
   pub idle : AllZip (λ lane book. mine book hands ≡ []) (lanes_of file) books
   pub kept : AllZip (λ c run. AllZip (SawMore c) run.seen books) (range_with_len 0 (length runs)) runs
+
+-- Caller c replied to all that it caught on a lane between two histories that it has seen, and to nothing else.
+pub record Answered (file : List JobUnit) (lane c : ℕ) (old new : List Group) (before after : List Reply) : Type 0 where
+  pub more : List Reply
+  pub replied : after ≡ before ++ more
+  pub caught : replies_on file lane c new ≡ replies_on file lane c old ++ more
+
+-- A hand replied to all that it caught on these lanes, where it has seen these histories.
+pub record HasReplied (file : List JobUnit) (lanes : List ℕ) (c : ℕ) (seen : List (List Group)) (replies : List Reply) : Type 0 where
+  pub replied : AllZip (λ lane h. filter (λ reply. reply.lane == lane) replies ≡ replies_on file lane c h) lanes seen
+  pub on_lanes : All (λ reply. Contains lanes reply.lane) replies
+
+-- Caller c put one unit more, of so many jobs from number `first` on.
+pub record PutsUnit (first count c : ℕ) (old new : List Group) : Type 0 where
+  pub put : (units : List Numbered) (unit : Numbered) → unit.numbers ≡ range_with_len first count → HandPut units c old → HandPut (units ++ unit ∷ []) c new
+
+-- Caller c is done with a lane, whatever units it had put there.
+pub record EndsLane (batch c : ℕ) (old new : List Group) : Type 0 where
+  pub did : (units : List Numbered) → HandPut units c old → HandDid units batch c new
+
+-- A hand has seen more on one lane, and what it has seen of the others is as it was.
+pub record OnOneLane (P : List Group → List Group → Type 0) (lanes : List ℕ) (lane : ℕ) (old new : List (List Group)) : Type 0 where
+  pub place : ℕ
+  pub within : place < length lanes
+  pub found : slice_index lanes place ≡ lane
+  pub seen : List Group
+  pub changed : new ≡ slice_set old place seen
+  pub holds : P (slice_index_or old place []) seen
+
+-- What a hand did on these lanes, where it has seen these histories, and the replies that it made.
+pub record HandRan (lanes : List ℕ) (file : List JobUnit) (hands batch c : ℕ) (seen : List (List Group)) (replies : List Reply) : Type 0 where
+  pub did : AllZip (λ lane h. HandDid (units_of file hands lane c) batch c h) lanes seen
+  pub replied : HasReplied file lanes c seen replies
+
+-- the replies of caller c to operations on a lane that got these answers, the first of which has serial n
+abbrev pub new_replies : List JobUnit → ℕ → ℕ → ℕ → List Answer → List Reply
+new_replies file lane c n answers = filter_map (λ x. reply_for lane c x (job_at file x.value)) (caught_from n answers)

@@ -1,7 +1,6 @@
 -- What the books and the replies of a file show.
 pub mod Books
 pub mod Replies
-pub mod Served
-pub mod Turns
 pub mod Hands
 pub mod UnitOps
+pub mod Rounds

@@ -1,12 +1,11 @@
 use crate::reply::Reply;
-use bq_model::Items;
-use plain_lane::Book;
+use bq_model::{Items, Lane};
 
 /// What a run leaves.
-#[derive(Debug, Drop)]
-pub struct Done {
+#[derive(Drop)]
+pub struct Done<L: Lane> {
     /// One reply for each job, by rising number.
     pub replies: Items<Reply>,
     /// One book for each lane, by rising number.
-    pub books: Items<Book>,
+    pub books: Items<L::Book>,
 }

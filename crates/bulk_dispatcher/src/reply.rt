@@ -1,6 +1,7 @@
 ghost use Rattle.std.specs.Prelude.{◌≡◌};
 
 use bq_model::Text;
+use bq_session::Claim;
 
 /// The answer to a job, and the operation that got the job.
 #[derive(Debug, Drop)]
@@ -13,15 +14,15 @@ pub struct Reply {
 }
 
 impl Reply {
-    /// A hand makes a reply of what it got and computed.
-    pub(crate) fn new(job: u32, lane: u32, caller: u32, serial: u64, text: Text) -> Reply
-        ensures { result ≡ record { job = job; lane = lane; caller = caller; serial = serial; text = text } }
+    /// A reply is made by spending the claim to the job's number.
+    pub(crate) fn new(claim: Claim, job: u32, text: Text) -> Reply
+        ensures { result ≡ record { job = job; lane = claim.lane; caller = claim.caller; serial = claim.serial; text = text } }
     {
         Reply {
             job,
-            lane,
-            caller,
-            serial,
+            lane: claim.lane(),
+            caller: claim.caller(),
+            serial: claim.serial(),
             text,
         }
     }

@@ -4,7 +4,7 @@ use Rattle.std.proofs.lemmas.List.{append-nil}
 use Rattle.bq_model.specs.declared.group.Group.{Group}
 use Rattle.word_rows.specs.declared.content.Content.{Content}
 use Rattle.core_model.specs.declared.course.Course.{Course}
-use Rattle.core_model.specs.declared.course.Course.TheVariants.{GoesOn, Ends, Fills, Reads, ReadsMore}
+use Rattle.core_model.specs.declared.course.Course.TheVariants.{GoesOn, Ends, Fills, Reads, ReadsMore, Walks, WalksMore, Answers}
 use Rattle.core_model.specs.LaneSizes.{LaneSizes}
 use Rattle.core_model.specs.State.{Caller, State, read}
 use Rattle.core_model.specs.Step.{target, linearizes, history_after, history_with, reads_on, course, followed, added_by, after, next}
@@ -41,6 +41,9 @@ module _ (n c : ℕ) (k : Caller) where
   either (Fills d i r) = inl (refl, refl)
   either (Reads m r l) = by_reading m r l []
   either (ReadsMore m r l v) = by_reading m r l (k.values ++ v ∷ [])
+  either (Walks t) = inl (refl, refl)
+  either (WalksMore t v) = inl (refl, refl)
+  either (Answers m) = inr (refl, refl)
 
 pub goes_on_or_ends : (z : LaneSizes) (s : State) (c : ℕ) → GoesOnOrEnds c (s.callers c) ((next z s c).callers c)
 unfolding next

@@ -1,5 +1,5 @@
 -- Each step of the owner of a finished batch keeps the lane lawful.
-use Rattle.std.proofs.Common.{◌≡◌, ℕ, zero, suc, ◌+◌, ◌-◌, Bool, true, false, List, [], ◌∷◌, ◌++◌, length, take, sym, refl, ap, ◌∙◌, subst, arith, Option, Some, None, ◌<◌}
+use Rattle.std.proofs.Common.{◌≡◌, ℕ, zero, suc, ◌+◌, ◌-◌, Bool, true, false, List, [], ◌∷◌, ◌++◌, length, take, sym, refl, ap, ◌∙◌, subst, arith, Option, Some, None, ◌<◌, ◌⊎◌, inl, inr, ◌≤◌}
 use Rattle.bq_model.specs.declared.group.Group.{Group}
 use Rattle.bq_model.specs.Replay.{answers_from}
 use Rattle.bq_model.specs.History.{last_queue}
@@ -25,7 +25,7 @@ use Rattle.core_model.specs.Facts.{Linearized, Holds, AtPoint}
 use Rattle.core_model.specs.Ghost.{Ghost, joint}
 use Rattle.core_model.specs.Lawful.{Lawful}
 use Rattle.core_model.proofs.Puts.{run_last}
-use Rattle.core_model.proofs.Stable.{third, world, some_none}
+use Rattle.core_model.proofs.Rely.{third, world, some_none}
 use Rattle.core_model.proofs.Preserves.{known, stutters, point_changes_with, finishes, changed, write_read}
 use Rattle.core_model.specs.declared.point.AnswerPoint.{AnswerPoint}
 use Rattle.bq_model.specs.declared.shape.Shape.{Shape}
@@ -39,6 +39,8 @@ use Rattle.word_rows.specs.declared.location.AnnField.TheVariants as field
 use Rattle.core_model.specs.declared.point.Point.TheVariants as point
 use Rattle.core_model.specs.declared.point.AnswerPoint.TheVariants as answer
 use Rattle.core_model.specs.Answer as answering
+use Rattle.core_model.proofs.Excess.{paired_enough}
+use Rattle.excess_count.specs.Excess.{excess_of}
 
 module _ (z : LaneSizes) (s : State) (L : Lawful z s) (c : ℕ) where
   abbrev G : Ghost
@@ -53,9 +55,21 @@ module _ (z : LaneSizes) (s : State) (L : Lawful z s) (c : ℕ) where
   -- where all values are read, the answers are the replay's at the place of the group
   read_right : (a i m : ℕ) (vs : List ℕ) (R : Linearized z (world s L.ghost) a i (s.callers c).started_at (own_group c (s.callers c))) (x : ℕ) → m ≡ i - R.dummy → x + 0 ≡ successes_of (s.memory.notice a).counts m
       → vs ≡ run (λ j. s.memory.value (L.ghost.path j)) (suc R.dummy) x → paired (s.callers c).ops m vs ≡ answers_from (last_queue R.pre) (s.callers c).ops
-  read_right a i m vs R x m_is sum vals = ap (λ (n : ℕ). paired me.ops n vs) (m_is ∙ sym R.length_queue) ∙ paired_right me.ops (last_queue R.pre) vs all where
+  read_right a i m vs R x m_is sum vals = ap (λ (n : ℕ). paired me.ops n vs) m_is ∙ (as_long R.length_queue ∙ paired_right me.ops (last_queue R.pre) vs all) where
+    excess_is : (s.memory.notice a).counts.excess ≡ excess_of me.ops
+    excess_is = ap (λ (k : Counts). k.excess) R.counts
+
+    -- more values in the queue than its dequeues want change nothing
+    as_long : (length (last_queue R.pre) ≡ i - R.dummy) ⊎ (excess_of me.ops ≤ i - R.dummy) → paired me.ops (i - R.dummy) vs ≡ paired me.ops (length (last_queue R.pre)) vs
+    as_long (inl same) = ap (λ (n : ℕ). paired me.ops n vs) (sym same)
+    as_long (inr enough) = let longer = R.no_shorter in paired_enough me.ops (i - R.dummy) (length (last_queue R.pre)) vs enough (omega arith)
+
+    same_gets : (length (last_queue R.pre) ≡ i - R.dummy) ⊎ (excess_of me.ops ≤ i - R.dummy) → successes_of (s.memory.notice a).counts (length (last_queue R.pre)) ≡ successes_of (s.memory.notice a).counts (i - R.dummy)
+    same_gets (inl same) = ap (successes_of (s.memory.notice a).counts) same
+    same_gets (inr enough) = let longer = R.no_shorter in let x = excess_is in omega arith
+
     many : got_count (answers_from (last_queue R.pre) me.ops) ≡ successes_of (s.memory.notice a).counts (i - R.dummy)
-    many = got_count-counted (s.memory.notice a).counts me.ops (last_queue R.pre) (i - R.dummy) R.counts R.length_queue
+    many = got_count-counted (s.memory.notice a).counts me.ops (last_queue R.pre) (length (last_queue R.pre)) R.counts refl ∙ same_gets R.length_queue
 
     all_read : x ≡ successes_of (s.memory.notice a).counts (i - R.dummy)
     all_read = (let e : x ≡ x + 0 = omega arith in e) ∙ (sum ∙ ap (successes_of (s.memory.notice a).counts) m_is)

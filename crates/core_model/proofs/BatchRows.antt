@@ -20,19 +20,22 @@ use Rattle.core_model.specs.declared.point.Point.{Point}
 use Rattle.core_model.specs.declared.point.Point.TheVariants as point
 use Rattle.core_model.specs.declared.point.BatchPoint.TheVariants as batch
 use Rattle.core_model.specs.Functions.{put, run}
-use Rattle.core_model.specs.LaneSizes.{LaneSizes, item}
+use Rattle.core_model.specs.LaneSizes.{LaneSizes}
 use Rattle.core_model.specs.Batches.{owner_of}
 use Rattle.core_model.specs.State.{Memory, Caller, State}
 use Rattle.core_model.specs.Fact.{fills}
 use Rattle.core_model.specs.Step.{followed, stepped, step_at}
-use Rattle.core_model.specs.Facts.{AllAgree, stored_before, Holds, AtPoint}
+use Rattle.core_model.specs.Facts.{AllAgree, stored_before, Holds, AtPoint, NotToCome}
 use Rattle.core_model.specs.declared.course.Course.TheVariants.{GoesOn, Fills}
 use Rattle.core_model.specs.Ghost.{unused, waiting, decided, Ghost, World, positions, at}
 use Rattle.core_model.specs.Lawful.{LinksIn, Bound, Standing, Announced, Told, Pending, Lawful}
 use Rattle.core_model.proofs.Puts.{put_here, put_else, run_same}
-use Rattle.core_model.proofs.Stable.{third, world, unused_waits, unused_decides, some_none, anns_same, anns_moved, Rely, owns_stable}
+use Rattle.core_model.proofs.Stable.{unused_stable}
+use Rattle.core_model.proofs.Rely.{third, world, unused_waits, unused_decides, some_none, anns_same, anns_moved, Rely}
 use Rattle.core_model.proofs.Preserves.{kept_stepped, Plain, known, preserves, changed, drafts_same, told_on, waits_on, waits_there}
-use Rattle.core_model.proofs.Announces.{told_same, pending_same, links_put}
+use Rattle.core_model.proofs.Announces.{told_same, pending_same, links_put, rows_within}
+use Rattle.core_model.specs.Stopper.{chain_rows}
+use Rattle.core_model.proofs.Counting.{enqs_chain, chain_some}
 
 -- a list by its values
 pub run_of : (vs : List ℕ) (f : ℕ → ℕ) (i : ℕ) → ((l : ℕ) → l < length vs → f (i + l) ≡ get_or vs l 0) → vs ≡ run f i (length vs)
@@ -57,7 +60,7 @@ module _ (z : LaneSizes) (s : State) (L : Lawful z s) (c : ℕ) where
 
   -- the link or the value of an own row that isn't linked is stored
   module _ (r : ℕ) (home : z.home r ≡ c) (off : G.spot r ≡ None) (link' : ℕ → LinkWord) (value' : ℕ → ℕ) (links : (q : ℕ) → q ≢ r → link' q ≡ s.memory.link q) (values : (q : ℕ) → q ≢ r → value' q ≡ s.memory.value q)
-      (ranges : (q : ℕ) → LinksIn z.rows (link' q)) (plain : Plain z G c) (t : Point) (apart : (i : ℕ) → me.taken ≤ i → item z c i ≢ r) where
+      (ranges : (q : ℕ) → LinksIn z.rows (link' q)) (plain : Plain z G c) (t : Point) (apart : NotToCome z c me.taken me.stopped r) where
     abbrev memory' : Memory
     memory' = record s.memory { link = link'; value = value' }
 
@@ -82,7 +85,7 @@ module _ (z : LaneSizes) (s : State) (L : Lawful z s) (c : ℕ) where
       link_own = λ q _ touch. links q touch;
       value_own = λ q _ touch. values q touch;
       value_path = λ i from below. values (G.path i) (on_path i from below);
-      anns = anns_same z (world s G) W refl refl refl refl refl refl;
+      anns = anns_same z (world s G) W refl refl refl refl refl refl refl;
       more = ([], sym (append-nil s.history));
     }
 
@@ -109,8 +112,8 @@ module _ (z : LaneSizes) (s : State) (L : Lawful z s) (c : ℕ) where
         })
         L.announced
         (told_on z s L c memory' G t (inl plain) (λ a at_head. told_same z.home s.memory.value value' G.path G.path (G.stage a) (s.memory.notice a) (owner_of z a) (s.callers (owner_of z a))
-        (λ i j d from below. let inside = (L.announced.bound a i d).within in let head = (L.announced.standing a i at_head d).from in values (G.path j) (on_path j (omega arith) (omega arith))) (L.told a at_head)))
-        (waits_on z s L c memory' G t (λ a waits. let p = L.pending a waits in let ne = λ (i : ℕ) (below : i < (s.memory.notice a).counts.enqs) (e : G.chain i ≡ r). plain a (waits_there z s L c a waits) (sym (p.homes i below) ∙ (ap z.home e ∙ home)) in
+        (λ i j d from below. let inside = rows_within (L.announced.bound a i d) in let head = (L.announced.standing a i at_head d).from in values (G.path j) (on_path j (omega arith) (omega arith))) (L.told a at_head)))
+        (waits_on z s L c memory' G t (λ a waits. let p = L.pending a waits in let ne = λ (i : ℕ) (below : i < chain_rows (s.memory.notice a).counts) (e : G.chain i ≡ r). plain a (waits_there z s L c a waits) (sym (p.homes i below) ∙ (ap z.home e ∙ home)) in
         pending_same z s.memory.link link' s.memory.value value' G.spot G.spot G.chain (G.linearized (owner_of z a)) (G.linearized (owner_of z a)) (s.memory.notice a) (owner_of z a) (s.callers (owner_of z a))
         (λ i below. links (G.chain i) (ne i below)) (λ i below. values (G.chain i) (ne i below)) p.unlinked refl p))
         (record {
@@ -118,7 +121,7 @@ module _ (z : LaneSizes) (s : State) (L : Lawful z s) (c : ℕ) where
           own_groups = (L.callers c).own_groups;
           allowed = (L.callers c).allowed;
           knows = let f = (L.callers c).knows in record {
-            unused = λ i from below known. owns_stable z (λ q. q ≡ r) (world s G) W rely c (item z c i) (apart i from) (f.unused i from below known);
+            unused = unused_stable z (λ q. q ≡ r) (world s G) W rely c me.taken me.stopped (λ q e. subst (NotToCome z c me.taken me.stopped) (sym e) apart) f.unused;
             started = f.started;
             last = (kept_stepped s.history c me t me.values f.last);
             at_point = knows;
@@ -127,7 +130,7 @@ module _ (z : LaneSizes) (s : State) (L : Lawful z s) (c : ℕ) where
 
   -- a value
   module _ (d : Draft) (i v : ℕ) (f : AtPoint z (world s L.ghost) c (s.callers c) (point.Batch d (batch.StoreValue i (d.notice.first + i) v))) where
-    rows : Holds z (world s L.ghost) c (fills (s.callers c).taken d.notice (s.callers c).ops i 0)
+    rows : Holds z (world s L.ghost) c (fills (s.callers c).taken (s.callers c).stopped d.notice (s.callers c).ops i 0)
     rows = f.here.0
 
     abbrev value_at : ℕ → ℕ
@@ -136,9 +139,10 @@ module _ (z : LaneSizes) (s : State) (L : Lawful z s) (c : ℕ) where
     abbrev V : World
     V = record { memory = record s.memory { value = value_at }; history = s.history; ghost = G }
 
-    value_filled : Holds z V c (fills me.taken d.notice me.ops (suc i) 0)
+    value_filled : Holds z V c (fills me.taken me.stopped d.notice me.ops (suc i) 0)
     value_filled = record {
       free = rows.free;
+      items = rows.items;
       taken = rows.taken;
       values = (λ l below more. dite (ℕ_discrete l i)
           (λ e. subst (λ (y : ℕ). value_at (d.notice.first + y) ≡ get_or (enqueued me.ops) y 0) (sym e) (put_here s.memory.value (d.notice.first + i) v ∙ (third f.here).value))
@@ -147,20 +151,26 @@ module _ (z : LaneSizes) (s : State) (L : Lawful z s) (c : ℕ) where
       nil = rows.nil;
     }
 
+    in_chain : i < chain_rows d.notice.counts
+    in_chain = enqs_chain d.notice.counts i (third f.here).inside
+
+    all_chain : chain_rows d.notice.counts ≡ d.notice.counts.enqs
+    all_chain = let below = (third f.here).inside in chain_some d.notice.counts (omega arith)
+
     value_goes : (u : Point) → AtPoint z V c (stepped me u) u → Lawful z (changed s c (record s.memory { value = value_at }) s.history (stepped me u))
-    value_goes u kn = let mine' = rows.free i (third f.here).inside in row_stored (d.notice.first + i) mine'.at_home mine'.unlinked s.memory.link value_at (λ _ _. refl) (λ q ne. put_else s.memory.value (d.notice.first + i) v q ne) L.list.links f.call.0.1
-        u (λ x from. rows.taken i x (third f.here).inside from) kn
+    value_goes u kn = let mine' = rows.free i in_chain in row_stored (d.notice.first + i) mine'.at_home mine'.unlinked s.memory.link value_at (λ _ _. refl) (λ q ne. put_else s.memory.value (d.notice.first + i) v q ne) L.list.links f.call.0.1
+        u (rows.taken i in_chain) kn
 
     value_next : (b one : Bool) → eqb (suc i) d.notice.counts.enqs ≡ b → eqb d.notice.counts.enqs 1 ≡ one
         → Lawful z (changed s c (record s.memory { value = value_at }) s.history (followed (length s.history) c me (cond b (GoesOn (point.Batch d (cond one (batch.StoreField field.OldTail) (batch.StoreChain 0 d.notice.first (suc d.notice.first))))) (Fills d (suc i) (suc (d.notice.first + i))))))
     value_next true true eb eo = let all = eqb-true (suc i) d.notice.counts.enqs eb in let single = eqb-true d.notice.counts.enqs 1 eo in value_goes (point.Batch d (batch.StoreField field.OldTail)) record {
       call = f.call;
-      here = (subst (λ (y : ℕ × ℕ). Holds z V c (fills me.taken d.notice me.ops y.0 y.1)) (λ k. (all k, (let e : 0 ≡ d.notice.counts.enqs - 1 = omega arith in e) k)) value_filled, (f.here.1.0, tt));
+      here = (subst (λ (y : ℕ × ℕ). Holds z V c (fills me.taken me.stopped d.notice me.ops y.0 y.1)) (λ k. (all k, (let c = all_chain in let e : 0 ≡ chain_rows d.notice.counts - 1 = omega arith in e) k)) value_filled, (f.here.1.0, tt));
     }
-    value_next true false eb eo = let all = eqb-true (suc i) d.notice.counts.enqs eb in let some = f.call.1.0.some in value_goes (point.Batch d (batch.StoreChain 0 d.notice.first (suc d.notice.first))) record {
+    value_next true false eb eo = let all = eqb-true (suc i) d.notice.counts.enqs eb in let some = (third f.here).inside in value_goes (point.Batch d (batch.StoreChain 0 d.notice.first (suc d.notice.first))) record {
       call = f.call;
       here = (
-        subst (λ (y : ℕ). Holds z V c (fills me.taken d.notice me.ops y 0)) all value_filled,
+        subst (λ (y : ℕ). Holds z V c (fills me.taken me.stopped d.notice me.ops y 0)) all value_filled,
         (
           f.here.1.0,
           (
@@ -198,7 +208,7 @@ module _ (z : LaneSizes) (s : State) (L : Lawful z s) (c : ℕ) where
 
   -- a link inside the own chain
   module _ (d : Draft) (i : ℕ) (f : AtPoint z (world s L.ghost) c (s.callers c) (point.Batch d (batch.StoreChain i (d.notice.first + i) (suc (d.notice.first + i))))) where
-    rows_there : Holds z (world s L.ghost) c (fills (s.callers c).taken d.notice (s.callers c).ops d.notice.counts.enqs i)
+    rows_there : Holds z (world s L.ghost) c (fills (s.callers c).taken (s.callers c).stopped d.notice (s.callers c).ops d.notice.counts.enqs i)
     rows_there = f.here.0
 
     abbrev link_at : ℕ → LinkWord
@@ -207,9 +217,10 @@ module _ (z : LaneSizes) (s : State) (L : Lawful z s) (c : ℕ) where
     abbrev U : World
     U = record { memory = record s.memory { link = link_at }; history = s.history; ghost = G }
 
-    link_filled : Holds z U c (fills me.taken d.notice me.ops d.notice.counts.enqs (suc i))
+    link_filled : Holds z U c (fills me.taken me.stopped d.notice me.ops d.notice.counts.enqs (suc i))
     link_filled = record {
       free = rows_there.free;
+      items = rows_there.items;
       taken = rows_there.taken;
       values = rows_there.values;
       joined = (λ l below more. dite (ℕ_discrete l i)
@@ -220,13 +231,13 @@ module _ (z : LaneSizes) (s : State) (L : Lawful z s) (c : ℕ) where
 
     link_next : (b : Bool) → eqb (suc (suc i)) d.notice.counts.enqs ≡ b
         → Lawful z (changed s c (record s.memory { link = link_at }) s.history (stepped me (point.Batch d (cond b (batch.StoreField field.OldTail) (batch.StoreChain (suc i) (suc (d.notice.first + i)) (suc (suc (d.notice.first + i))))))))
-    link_next b eb = let next : suc i < d.notice.counts.enqs = (third f.here).inside in let below : i < d.notice.counts.enqs = omega arith in let mine' = rows_there.free i below in let inside = (rows_there.free (suc i) next).inside in
+    link_next b eb = let next : suc i < d.notice.counts.enqs = (third f.here).inside in let below : i < chain_rows d.notice.counts = enqs_chain d.notice.counts i (omega arith) in let mine' = rows_there.free i below in let inside = (rows_there.free (suc i) (enqs_chain d.notice.counts (suc i) next)).inside in
         row_stored (d.notice.first + i) mine'.at_home mine'.unlinked link_at s.memory.value (λ q ne. put_else s.memory.link (d.notice.first + i) (Single (suc (d.notice.first + i))) q ne) (λ _ _. refl)
         (links_put z.rows s.memory.link (d.notice.first + i) (Single (suc (d.notice.first + i))) (omega arith) L.list.links) f.call.0.1
-        (point.Batch d (cond b (batch.StoreField field.OldTail) (batch.StoreChain (suc i) (suc (d.notice.first + i)) (suc (suc (d.notice.first + i)))))) (λ x from. rows_there.taken i x below from) (knows b eb) where
+        (point.Batch d (cond b (batch.StoreField field.OldTail) (batch.StoreChain (suc i) (suc (d.notice.first + i)) (suc (suc (d.notice.first + i)))))) (rows_there.taken i below) (knows b eb) where
           knows : (b : Bool) → eqb (suc (suc i)) d.notice.counts.enqs ≡ b → AtPoint z U c (stepped me (point.Batch d (cond b (batch.StoreField field.OldTail) (batch.StoreChain (suc i) (suc (d.notice.first + i)) (suc (suc (d.notice.first + i))))))) (point.Batch d (cond b (batch.StoreField field.OldTail) (batch.StoreChain (suc i) (suc (d.notice.first + i)) (suc (suc (d.notice.first + i))))))
           knows true eb = let all = eqb-true (suc (suc i)) d.notice.counts.enqs eb in
-              record { call = f.call; here = (subst (λ (y : ℕ). Holds z U c (fills me.taken d.notice me.ops d.notice.counts.enqs y)) (let e : suc i ≡ d.notice.counts.enqs - 1 = omega arith in e) link_filled, (f.here.1.0, tt)) }
+              record { call = f.call; here = (subst (λ (y : ℕ). Holds z U c (fills me.taken me.stopped d.notice me.ops d.notice.counts.enqs y)) (let c = chain_some d.notice.counts (let next : suc i < d.notice.counts.enqs = (third f.here).inside in omega arith) in let e : suc i ≡ chain_rows d.notice.counts - 1 = omega arith in e) link_filled, (f.here.1.0, tt)) }
           knows false eb = let next : suc i < d.notice.counts.enqs = (third f.here).inside in
               record {
                 call = f.call;
@@ -286,7 +297,7 @@ module _ (z : LaneSizes) (s : State) (L : Lawful z s) (c : ℕ) where
       link_own = λ _ _ _. refl;
       value_own = λ _ _ _. refl;
       value_path = λ _ _ _. refl;
-      anns = anns_moved z (world s G) S refl (λ x there. notices x (other x there)) (λ x q there e. olds x (other x there) ∙ e) (λ x at. (at, refl, refl));
+      anns = anns_moved z (world s G) S refl refl (λ x there. notices x (other x there)) (λ x q there e. olds x (other x there) ∙ e) (λ x at. (at, refl, refl));
       more = ([], sym (append-nil s.history));
     }
 
@@ -296,12 +307,12 @@ module _ (z : LaneSizes) (s : State) (L : Lawful z s) (c : ℕ) where
       installed = A.installed;
       old_head = λ x at. ap (λ (n : Notice). n.old_head) (notices x (other x (A.installed x at))) ∙ A.old_head x at;
       waits = A.waits;
-      bound = λ x i e. subst (λ (n : Notice). Bound z.first G.path G.chained G.cause (G.head + G.rest) G.tail n x i) (sym (notices x (other_decided x i e))) (A.bound x i e);
-      standing = λ x i at e. subst (λ (n : Notice). Standing G.head G.shown G.tail n i) (sym (notices x (other_decided x i e))) (A.standing x i at e);
+      bound = λ x i e. subst (λ (n : Notice). Bound z.first G.path G.chained G.cause (G.head + G.rest) G.tail n x i (G.span x)) (sym (notices x (other_decided x i e))) (A.bound x i e);
+      standing = λ x i at e. subst (λ (n : Notice). Standing G.head G.shown G.tail n i (G.span x)) (sym (notices x (other_decided x i e))) (A.standing x i at e);
       unknown = λ x e. olds x (other_waits x e) ∙ A.unknown x e;
       recorded = λ x i q e is. A.recorded x i q e (sym (olds x (other_decided x i e)) ∙ is);
       unrecorded = λ x i e is. A.unrecorded x i e (sym (olds x (other_decided x i e)) ∙ is);
-      lags = λ below by. let x = A.lags below by in (x.0, x.1, x.2, subst (λ (n : Notice). G.head + G.rest ≤ G.tail + n.counts.enqs) (sym (notices x.0 (other_decided x.0 G.tail x.1))) x.3);
+      lags = A.lags;
     }
 
     pub ann_stored : AtPoint z S c (stepped me t) t → Lawful z (changed s c memory_ann s.history (stepped me t))
@@ -318,7 +329,7 @@ module _ (z : LaneSizes) (s : State) (L : Lawful z s) (c : ℕ) where
           own_groups = (L.callers c).own_groups;
           allowed = (L.callers c).allowed;
           knows = let f = (L.callers c).knows in record {
-            unused = λ i from below known. owns_stable z (λ _. ⊥) (world s G) S storing c (item z c i) (λ x. x) (f.unused i from below known);
+            unused = unused_stable z (λ _. ⊥) (world s G) S storing c me.taken me.stopped (λ _ x. absurd x) f.unused;
             started = f.started;
             last = kept_stepped s.history c me t me.values f.last;
             at_point = knows;

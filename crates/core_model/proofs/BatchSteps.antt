@@ -1,5 +1,5 @@
 -- Each step of the owner of a batch keeps the lane lawful, until its announcement is installed.
-use Rattle.std.proofs.Common.{Option, ◌≡◌, ◌≢◌, inl, inr, ℕ, suc, ◌+◌, ◌-◌, ◌*◌, ◌<◌, Bool, true, false, cond, [], length, sym, refl, ap, ◌∙◌, subst, arith, le_refl, Some, None, eqb}
+use Rattle.std.proofs.Common.{Option, ◌≡◌, ◌≢◌, inl, inr, ℕ, suc, ◌+◌, ◌-◌, ◌*◌, ◌<◌, Bool, true, false, cond, [], length, sym, refl, ap, ◌∙◌, subst, arith, le_refl, Some, None, eqb, eqb-true}
 use Rattle.std.proofs.lemmas.List.{append-nil}
 use Rattle.std.proofs.lemmas.Nat.{div-mul-add}
 use mathlib.Core.Logic.{dite}
@@ -16,7 +16,7 @@ use Rattle.core_model.specs.declared.point.Notice.{Notice}
 use Rattle.core_model.specs.declared.point.Draft.{Draft}
 use Rattle.core_model.specs.declared.point.Point.{Point}
 use Rattle.core_model.specs.Functions.{put, run}
-use Rattle.core_model.specs.LaneSizes.{LaneSizes, item}
+use Rattle.core_model.specs.LaneSizes.{LaneSizes}
 use Rattle.core_model.specs.Batches.{own_ann, owner_of}
 use Rattle.core_model.specs.State.{Memory, Caller, command, State, write, head_in}
 use Rattle.core_model.specs.Act.{is_node, location}
@@ -27,11 +27,12 @@ use Rattle.core_model.specs.Facts.{AllAgree, stored_before, Holds, AtPoint}
 use Rattle.core_model.specs.Ghost.{Stage, unused, waiting, decided, Ghost, World, at}
 use Rattle.core_model.specs.Lawful.{Headed, Announced, Told, IsTold, Pending, Waits, Unmade, Lawful}
 use Rattle.core_model.proofs.Puts.{put_here, put_else}
-use Rattle.core_model.proofs.Stable.{third, world, unused_waits, unused_decides, waits_decides, one_some, some_none, Rely, owns_stable}
+use Rattle.core_model.proofs.Stable.{unused_stable}
+use Rattle.core_model.proofs.Rely.{third, world, unused_waits, unused_decides, waits_decides, one_some, some_none, Rely}
 use Rattle.core_model.proofs.Preserves.{kept_stepped, known, stutters, preserves, changed, same_places}
 use Rattle.core_model.proofs.BatchRows.{preserves_batch_value, preserves_batch_chain, preserves_batch_field, run_of, length-enqueued}
 use Rattle.core_model.specs.declared.point.Point.TheVariants.{Idle}
-use Rattle.core_model.specs.Batch.{on_head}
+use Rattle.core_model.specs.Batch.{on_head, retry}
 use Rattle.core_model.specs.declared.point.BatchPoint.{BatchPoint}
 use Rattle.core_model.proofs.Lookups.{node_found, finds}
 use Rattle.bq_model.specs.declared.shape.Shape.{Shape}
@@ -44,10 +45,14 @@ use Rattle.core_model.specs.Coded.{PointFits, CourseFits}
 use Rattle.core_model.proofs.Fitting.{fresh_help, course_either, point_either}
 use Rattle.core_model.specs.declared.point.Back.TheVariants as back
 use Rattle.core_model.specs.declared.point.BatchPoint.TheVariants as batch
+use Rattle.core_model.specs.declared.point.ManyPoint.TheVariants as many
 use Rattle.core_model.specs.declared.point.Point.TheVariants as point
 use Rattle.core_model.specs.declared.point.HelpPoint.TheVariants as help
 use Rattle.word_rows.specs.declared.location.AnnField.TheVariants as field
 use Rattle.core_model.specs.Batch as batching
+use Rattle.core_model.proofs.Counting.{chain_pos}
+use Rattle.core_model.specs.Stopper.{chain_rows}
+use Rattle.excess_count.proofs.ExcessLaws.{count-ops}
 
 -- a notice whose fields all agree with another one is that
 all_agreed : (tail : Option Place) (s n : Notice) → s.old_head ≡ n.old_head → AllAgree (stored_before field.OldHead) tail s n → s ≡ n
@@ -86,7 +91,7 @@ module _ (z : LaneSizes) (s : State) (L : Lawful z s) (c : ℕ) where
     is : Holds z (world s L.ghost) c (drafts (command (s.callers c)) d)
     is = f.call.1.0
 
-    rows : Holds z (world s L.ghost) c (fills (s.callers c).taken d.notice (s.callers c).ops d.notice.counts.enqs (d.notice.counts.enqs - 1))
+    rows : Holds z (world s L.ghost) c (fills (s.callers c).taken (s.callers c).stopped d.notice (s.callers c).ops d.notice.counts.enqs (chain_rows d.notice.counts - 1))
     rows = f.here.1.0
 
     fresh : G.stage a ≡ unused
@@ -162,6 +167,7 @@ module _ (z : LaneSizes) (s : State) (L : Lawful z s) (c : ℕ) where
       anns = record {
         installed = λ x there e. there (sym (stage_else x (other x there)) ∙ e);
         waited = λ x waits there. sym (stage_else x (other x there)) ∙ waits;
+        span_same = λ _ _ _. refl;
         done = λ x i e. stage_else x (other x (λ u. unused_decides u e)) ∙ e;
         decides = λ x i there e. inl (old_decided x i e);
         notice_same = λ _ _. refl;
@@ -189,17 +195,16 @@ module _ (z : LaneSizes) (s : State) (L : Lawful z s) (c : ℕ) where
     }
 
     pending_here : Pending z s.memory.link s.memory.value G.spot (λ i. n.first + i) (G.linearized c) n c k'
-    pending_here = let some = is.some in record {
+    pending_here = let some = chain_pos n.counts in record {
       known = is.known;
       not_yet = off.0;
-      some = is.some;
       starts = let e : n.first + 0 ≡ n.first = omega arith in e;
       ends = λ i e. let l = is.last in let same : n.first + i ≡ n.last = omega arith in same;
       homes = λ i below. (rows.free i below).at_home;
       inside = λ i below. (rows.free i below).inside;
-      items = λ i below. (rows.free i below).is_item;
+      items = λ i below. rows.items i below;
       unlinked = λ i below. (rows.free i below).unlinked;
-      taken = λ i j below from. rows.taken i j below from;
+      taken = λ i below. rows.taken i below;
       apart = λ i j less below e. absurd (omega arith);
       joined = λ i below. rows.joined i (omega arith) (omega arith) ∙ ap Single (let e : suc (n.first + i) ≡ n.first + suc i = omega arith in e);
       last = λ i e. rows.nil i (omega arith) (omega arith);
@@ -216,8 +221,9 @@ module _ (z : LaneSizes) (s : State) (L : Lawful z s) (c : ℕ) where
     told_here : Told z.home s.memory.value G.path (stage' a) n c k'
     told_here = record {
       describes = is.describes;
-      first = ap z.home (let e : n.first ≡ n.first + 0 = omega arith in e) ∙ (rows.free 0 is.some).at_home;
-      last = let some = is.some in let end = is.last in ap z.home (let e : n.last ≡ n.first + (n.counts.enqs - 1) = omega arith in e) ∙ (rows.free (n.counts.enqs - 1) (omega arith)).at_home;
+      some = is.some;
+      first = ap z.home (let e : n.first ≡ n.first + 0 = omega arith in e) ∙ (rows.free 0 (chain_pos n.counts)).at_home;
+      last = let some = chain_pos n.counts in let end = is.last in ap z.home (let e : n.last ≡ n.first + (chain_rows n.counts - 1) = omega arith in e) ∙ (rows.free (chain_rows n.counts - 1) (omega arith)).at_home;
       helps = tt;
       values = λ i d. absurd (waits_decides stage_here d);
     }
@@ -243,7 +249,7 @@ module _ (z : LaneSizes) (s : State) (L : Lawful z s) (c : ℕ) where
           own_groups = (L.callers c).own_groups;
           allowed = (L.callers c).allowed;
           knows = record {
-            unused = λ i from below known. owns_stable z (λ _. ⊥) (world s G) W installing c (item z c i) (λ x. x) (k.unused i from below known);
+            unused = unused_stable z (λ _. ⊥) (world s G) W installing c me.taken me.stopped (λ _ x. absurd x) k.unused;
             started = k.started;
             last = kept_stepped s.history c me t' me.values k.last;
             at_point = record {
@@ -259,8 +265,14 @@ module _ (z : LaneSizes) (s : State) (L : Lawful z s) (c : ℕ) where
           there u = unused_waits u stage_here
 
   install_found : (d : Draft) (x : HeadWord) → s.memory.head ≡ x → (b : Bool) → is_node x d.notice.old_head ≡ b → AtPoint z (world s L.ghost) c (s.callers c) (point.Batch d batch.Install)
-      → Lawful z (changed s c (write s.memory Head (cond b (OfHead (Ann d.ann d.notice.old_head.count)) (OfHead x))) s.history (stepped (s.callers c) (cond b (point.Help (help_of d.ann back.Own) help.LoadOldHead) (point.Batch d batch.LoadHead))))
-  install_found d x at false _ f = stutters z s L c (point.Batch d batch.LoadHead) Head (OfHead x) (ap OfHead at) (record { call = f.call; here = f.here.1 })
+      → Lawful z (changed s c (write s.memory Head (cond b (OfHead (Ann d.ann d.notice.old_head.count)) (OfHead x))) s.history (stepped (s.callers c) (cond b (point.Help (help_of d.ann back.Own) help.LoadOldHead) (retry d))))
+  install_found d x at false _ f = again (eqb d.notice.counts.enqs 0) refl where
+    again : (b : Bool) → eqb d.notice.counts.enqs 0 ≡ b → Lawful z (changed s c (write s.memory Head (OfHead x)) s.history (stepped (s.callers c) (cond b (point.Many d many.LoadHead) (point.Batch d batch.LoadHead))))
+    again false _ = stutters z s L c (point.Batch d batch.LoadHead) Head (OfHead x) (ap OfHead at) (record { call = f.call; here = f.here.1 })
+    again true e = let none = eqb-true d.notice.counts.enqs 0 e in let is = f.call.1.0 in let deqs = ap (λ (k : Counts). k.deqs) is.describes.counts in let enqs = ap (λ (k : Counts). k.enqs) is.describes.counts in
+        let all = count-ops (s.callers c).ops in let some = is.some in let w = third f.here in
+        stutters z s L c (point.Many d many.LoadHead) Head (OfHead x) (ap OfHead at)
+        (record { call = (f.call.0, (f.call.1.0, (f.here.1.0, ((none, omega arith), tt)))); here = (record { fresh = w.fresh; owner = w.owner; fields = tt }, tt) })
   install_found d (Node p) at true same f = installed d f (at ∙ ap Node (same_places p d.notice.old_head same))
   install_found d (Ann y m) at true same f = absurd (cc same)
 
@@ -330,5 +342,6 @@ module _ (s : Shape) where
   batch_fits d (batch.StoreChain i r n) x a m = (a, either_fits (eqb (suc (suc i)) d.notice.counts.enqs) (batch.StoreField field.OldTail) (batch.StoreChain (suc i) n (suc n)) tt tt)
   batch_fits d (batch.StoreField f) x a m = (a, field_fits f)
   batch_fits d batch.LoadHead (OfHead x) a m = head_fits d x a m
-  batch_fits d batch.Install x a m = point_either s (is_node (head_in x) d.notice.old_head) (point.Help (help_of d.ann back.Own) help.LoadOldHead) (point.Batch d batch.LoadHead) (fresh_help s d.ann back.Own a.0 tt, tt) (a, tt)
+  batch_fits d batch.Install x a m = point_either s (is_node (head_in x) d.notice.old_head) (point.Help (help_of d.ann back.Own) help.LoadOldHead) (retry d) (fresh_help s d.ann back.Own a.0 tt, tt)
+      (point_either s (eqb d.notice.counts.enqs 0) (point.Many d many.LoadHead) (point.Batch d batch.LoadHead) (a, tt) (a, tt))
   batch_fits _ _ _ a m = absurd m.0

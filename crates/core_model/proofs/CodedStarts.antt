@@ -1,5 +1,5 @@
 -- The numbers of an empty lane can be coded, and those of a lane after the start of a command.
-use Rattle.std.proofs.Common.{◌≡◌, ◌≢◌, ℕ, suc, ◌+◌, ◌-◌, ◌*◌, ◌^◌, ◌<◌, ◌≤◌, Bool, true, false, cond, List, [], ◌∷◌, length, take, drop, get_or, sym, refl, ap, ◌∙◌, subst, arith, All}
+use Rattle.std.proofs.Common.{◌≡◌, ◌≢◌, ℕ, suc, ◌+◌, ◌-◌, ◌*◌, ◌^◌, ◌<◌, ◌≤◌, Bool, true, false, cond, List, [], ◌∷◌, length, take, drop, get_or, sym, refl, ap, ◌∙◌, subst, arith, All, eqb}
 use Rattle.std.proofs.lemmas.List.{length-append, length-take}
 use Rattle.std.proofs.lemmas.List.Elements.{All-filter}
 use Rattle.std.proofs.Math.Pow.{pow_mono}
@@ -24,10 +24,11 @@ use Rattle.word_rows.proofs.SizeLemmas.{rows_within}
 use Rattle.core_model.specs.declared.point.Point.TheVariants as point
 use Rattle.core_model.specs.declared.point.EnqueuePoint.TheVariants as enq
 use Rattle.core_model.specs.declared.point.BatchPoint.TheVariants as batch
+use Rattle.core_model.specs.declared.point.ManyPoint.TheVariants as many
 use Rattle.core_model.specs.Functions.{put}
 use Rattle.core_model.specs.LaneSizes.{LaneSizes, lane_sizes, item}
-use Rattle.core_model.specs.State.{Caller, State}
-use Rattle.core_model.specs.Start.{PassesAllowance, IsCommand, has_rows, draft_of, first_point, started, refused, start, opening}
+use Rattle.core_model.specs.State.{Caller, State, command}
+use Rattle.core_model.specs.Start.{PassesAllowance, IsCommand, has_rows, draft_of, first_point, started, refused, start, opening, batch_point}
 use Rattle.core_model.specs.Fits.{DraftFits}
 use Rattle.core_model.specs.Coded.{PointFits, IsCoded}
 use Rattle.core_model.specs.Lawful.{Lawful}
@@ -36,6 +37,11 @@ use Rattle.core_model.proofs.Preserves.{known}
 use Rattle.core_model.proofs.Steps.{no_operation, started_lawful}
 use Rattle.core_model.proofs.Ends.{idle_groups}
 use Rattle.core_model.proofs.Tables.{opens_as_its_table}
+use Rattle.core_model.specs.Stopper.{chain_rows}
+use Rattle.core_model.specs.Facts.{IsDraft}
+use Rattle.core_model.specs.declared.point.Draft.{Draft}
+use Rattle.core_model.proofs.Counting.{chain_pos}
+use Rattle.core_model.proofs.Rely.{third}
 
 field_opens : (s : Shape) (a : ℕ) (f : AnnField) → MayHold s (AnnWord a f) (opening_field f)
 field_opens s a OldHead = (tt, ((omega arith), (omega arith)))
@@ -105,19 +111,22 @@ module _ (key : Shape) (s : State) (L : Lawful (lane_sizes key) s) (R : IsCoded 
       counts_fit : (enqueue_count ops < 2 ^ 16) × (dequeue_count ops < 2 ^ 16) × (excess_of ops < 2 ^ 16)
       counts_fit = let all = count-ops ops in let x = excess_of-le ops in let most : key.batch ≤ 256 = key.some_batch.1 in let few = short in (omega arith, omega arith, omega arith)
 
-      draft_fits : (v : ℕ) → (first_point z c (s.callers c) ops ≡ point.Batch (draft_of z c (s.callers c) ops) (batch.StoreValue 0 (item z c (s.callers c).taken) v)) → DraftFits key (draft_of z c (s.callers c) ops)
-      draft_fits v first = let f = known z s' begun_lawful c (point.Batch (draft_of z c (s.callers c) ops) (batch.StoreValue 0 (item z c (s.callers c).taken) v)) (ap (λ (k : Caller). k.point) here ∙ first) in
-          let d = f.call.1.0 in let some = d.some in let last = d.last in let free = f.here.0.free in
-          let from : item z c (s.callers c).taken + 0 < rows_of key = (free 0 some).inside in
-          let end : item z c (s.callers c).taken + (enqueue_count ops - 1) < rows_of key = (free (enqueue_count ops - 1) (omega arith)).inside in
+      abbrev d : Draft
+      d = draft_of z c (s.callers c) ops
+
+      -- its rows are those of the lane, and its numbers fit
+      draft_fits : IsDraft z c (command (s'.callers c)) d → ((l : ℕ) → l < chain_rows d.notice.counts → d.notice.first + l < rows_of key) → DraftFits key d
+      draft_fits is_draft free = let some = chain_pos d.notice.counts in let last = is_draft.last in
+          let from : d.notice.first + 0 < rows_of key = free 0 some in
+          let end : d.notice.first + (chain_rows d.notice.counts - 1) < rows_of key = free (chain_rows d.notice.counts - 1) (omega arith) in
           let row = rows_within key in (
-            d.inside,
+            is_draft.inside,
             record {
               old_head = ((omega arith), (omega arith));
               first = omega arith;
               last = omega arith;
               counts = counts_fit;
-              number = ((batch_fits (length ops) is.0 left), at);
+              number = ((batch_fits (length ops) is left), at);
               order0 = order_fits ops 0;
               order1 = order_fits ops 1;
               order2 = order_fits ops 2;
@@ -125,17 +134,17 @@ module _ (key : Shape) (s : State) (L : Lawful (lane_sizes key) s) (R : IsCoded 
             },
           )
 
+      many_fit : (b : Bool) → first_point z c (s.callers c) ops ≡ batch_point ops d b → PointFits key (batch_point ops d b)
+      many_fit true first = let f = known z s' begun_lawful c (point.Many d many.LoadHead) (ap (λ (k : Caller). k.point) here ∙ first) in (draft_fits f.call.1.0 (λ l below. ((third f.call).free l below).inside), tt)
+      many_fit false first = let f = known z s' begun_lawful c (point.Batch d (batch.StoreValue 0 d.notice.first (get_or (enqueued ops) 0 0))) (ap (λ (k : Caller). k.point) here ∙ first) in (draft_fits f.call.1.0 (λ l below. (f.here.0.free l below).inside), values 0)
+
       point_fits : (xs : List Op) → xs ≡ ops → PointFits key (first_point z c (s.callers c) xs)
       point_fits [] e = tt
       point_fits (Enq v ∷ []) e = let f = known z s' begun_lawful c (point.Enqueue (record { row = item z c (s.callers c).taken; value = v }) enq.StoreValue) (ap (λ (k : Caller). k.point) here ∙ ap (first_point z c (s.callers c)) (sym e)) in
           (record { row = f.call.1.1.0.0.inside; value = subst (λ (ys : List Op). get_or (enqueued ys) 0 0 < 2 ^ 64) (sym e) (values 0) }, tt)
       point_fits (Deq ∷ []) e = tt
-      point_fits (op ∷ op' ∷ xs) e = (
-        subst (λ (ys : List Op). DraftFits key (draft_of z c (s.callers c) ys)) (sym e)
-            (draft_fits (get_or (enqueued (op ∷ op' ∷ xs)) 0 0) (ap (first_point z c (s.callers c)) (sym e)
-            ∙ ap (λ (ys : List Op). point.Batch (draft_of z c (s.callers c) ys) (batch.StoreValue 0 (item z c (s.callers c).taken) (get_or (enqueued (op ∷ op' ∷ xs)) 0 0))) e)),
-        subst (λ (ys : List Op). get_or (enqueued ys) 0 0 < 2 ^ 64) (sym e) (values 0),
-      )
+      point_fits (op ∷ op' ∷ xs) e = subst (λ (ys : List Op). PointFits key (batch_point ys (draft_of z c (s.callers c) ys) (eqb (enqueue_count ys) 0))) (sym e)
+          (many_fit (eqb (enqueue_count ops) 0) (ap (first_point z c (s.callers c)) (sym e) ∙ ap (λ (ys : List Op). batch_point ys (draft_of z c (s.callers c) ys) (eqb (enqueue_count ys) 0)) e))
 
       pub begun_coded : IsCoded key record { memory = s.memory; history = s.history; callers = put s.callers c (started z (length s.history) c (s.callers c) ops) }
       begun_coded = record {

@@ -25,6 +25,7 @@ use Rattle.core_model.specs.declared.point.Point.TheVariants as point
 use Rattle.core_model.specs.declared.point.EnqueuePoint.TheVariants as enq
 use Rattle.core_model.specs.declared.point.DequeuePoint.TheVariants as deq
 use Rattle.core_model.specs.declared.point.BatchPoint.TheVariants as batch
+use Rattle.core_model.specs.declared.point.ManyPoint.TheVariants as many
 use Rattle.core_model.specs.declared.point.HelpPoint.TheVariants as help
 use Rattle.core_model.specs.declared.point.AnswerPoint.TheVariants as answer
 use Rattle.core_model.specs.Act.{location, effect, same_content}
@@ -40,8 +41,9 @@ use Rattle.core_model.proofs.Puts.{put_all}
 use Rattle.core_model.proofs.Memories.{writes}
 use Rattle.core_model.proofs.Coding.{course_fits, followed_fits}
 use Rattle.core_model.proofs.InRange.{is_word, counts_fit, shape_fits}
-use Rattle.core_model.proofs.Stable.{third}
+use Rattle.core_model.proofs.Rely.{third}
 use Rattle.core_model.proofs.Preserves.{known}
+use Rattle.core_model.proofs.Counting.{enqs_chain}
 
 -- each word holds a content of its kind
 field_held : (n : Notice) (a : ℕ) (f : AnnField) → IsHeld (AnnWord a f) (field_in n f)
@@ -75,9 +77,11 @@ chosen P false y x a b = b
 module _ (m : Memory) where
   found_held : (t : Point) → IsHeld (target t) (read m (target t))
   found_held (point.Batch d (batch.StoreField f)) = read_held m d.ann f
+  found_held (point.Many d (many.StoreField f)) = read_held m d.ann f
   found_held (point.Enqueue i enq.StoreValue) = tt
   found_held (point.Dequeue deq.LoadHead) = tt
   found_held (point.Batch d batch.LoadHead) = tt
+  found_held (point.Many d many.LoadHead) = tt
   found_held (point.Help h help.LoadOldHead) = tt
   found_held (point.Answer (answer.LoadOldTail h)) = tt
   found_held (point.Answer (answer.LoadLink i r l)) = tt
@@ -96,9 +100,11 @@ module _ (m : Memory) where
 
   act_held : (t : Point) → ActHeld (act t)
   act_held (point.Batch d (batch.StoreField f)) = field_held d.notice d.ann f
+  act_held (point.Many d (many.StoreField f)) = field_held d.notice d.ann f
   act_held (point.Enqueue i enq.StoreValue) = tt
   act_held (point.Dequeue deq.LoadHead) = tt
   act_held (point.Batch d batch.LoadHead) = tt
+  act_held (point.Many d many.LoadHead) = tt
   act_held (point.Help h help.LoadOldHead) = tt
   act_held (point.Answer (answer.LoadOldTail h)) = tt
   act_held (point.Answer (answer.LoadLink i r l)) = tt
@@ -141,6 +147,10 @@ module _ (s : Shape) where
   act_fits (point.Batch d (batch.StoreChain i r l)) a c n = (tt, n)
   act_fits (point.Batch d (batch.StoreField f)) a c n = field_fits d f a.0
   act_fits (point.Batch d batch.Install) a c n = let old = a.0.1.old_head in ((tt, old), (tt, (a.0.0, old.1)))
+  act_fits (point.Many d (many.MoveHead r)) a c n = let old = a.0.1.old_head in ((tt, old), (tt, (a.1, c)))
+  act_fits (point.Many d (many.PassTail p r)) a c n = ((tt, a.1.0), (tt, (a.1.1, c)))
+  act_fits (point.Many d (many.StoreField f)) a c n = field_fits d f a.0
+  act_fits (point.Help h (help.Decide p)) a c n = ((tt, tt), (tt, a.1))
   act_fits (point.Help h (help.LinkChain p)) a c n = ((tt, tt), (tt, a.0.first))
   act_fits (point.Help h (help.PassTail p r)) a c n = ((tt, a.1.0), (tt, (a.1.1, c)))
   act_fits (point.Help h (help.RecordTail p)) a c n = ((tt, tt), (tt, a.1))
@@ -161,6 +171,7 @@ pub is_valid : (s : Shape) (t : Point) → IsWord (rows_of s) (anns_of s) (targe
 is_valid s (point.Enqueue i enq.StoreValue) w = w
 is_valid s (point.Dequeue deq.LoadHead) w = w
 is_valid s (point.Batch d batch.LoadHead) w = w
+is_valid s (point.Many d many.LoadHead) w = w
 is_valid s (point.Help h help.LoadOldHead) w = w
 is_valid s (point.Answer (answer.LoadOldTail h)) w = w
 is_valid s (point.Answer (answer.LoadLink i r l)) w = w
@@ -178,13 +189,16 @@ module _ (P : List Op → Type 0) (n c : ℕ) (k : Caller) (same : P k.ops) (non
   ops_after (course.Fills d i r) = same
   ops_after (course.Reads m r l) = ops_read m r l []
   ops_after (course.ReadsMore m r l v) = ops_read m r l _
+  ops_after (course.Walks t) = same
+  ops_after (course.WalksMore t v) = same
+  ops_after (course.Answers m) = none
 
 module _ (key : Shape) (s : State) (L : Lawful (lane_sizes key) s) (R : IsCoded key s) (c : ℕ) where
   abbrev z : LaneSizes
   z = lane_sizes key
 
   next_fits : (t : Point) → (s.callers c).point ≡ t → NextFits key t
-  next_fits (point.Batch d (batch.StoreChain i r n)) is = let f = known z s L c (point.Batch d (batch.StoreChain i r n)) is in let own = third f.here in let row = own.row in let next = own.next in let inside = (f.here.0.free (suc i) own.inside).inside in omega arith
+  next_fits (point.Batch d (batch.StoreChain i r n)) is = let f = known z s L c (point.Batch d (batch.StoreChain i r n)) is in let own = third f.here in let row = own.row in let next = own.next in let inside = (f.here.0.free (suc i) (enqs_chain d.notice.counts (suc i) own.inside)).inside in omega arith
   next_fits (point.Batch d (batch.StoreValue i r v)) is = tt
   next_fits (point.Batch d (batch.StoreField f)) is = tt
   next_fits (point.Batch d batch.LoadHead) is = tt

@@ -1,12 +1,10 @@
 -- Each step of a dequeue keeps the lane lawful.
-use Rattle.std.proofs.Common.{◌≡◌, ℕ, zero, suc, ◌+◌, ◌*◌, ◌<◌, ◌≤◌, Bool, true, false, cond, List, [], ◌∷◌, ◌++◌, length, sym, refl, ap, ◌∙◌, subst, arith, le_refl, length-append, Some, None, IsSome, ◌≢◌, eqb, eq-eqb}
+use Rattle.std.proofs.Common.{◌≡◌, ℕ, suc, ◌+◌, ◌<◌, ◌≤◌, Bool, true, false, cond, List, [], ◌∷◌, ◌++◌, length, sym, refl, ap, ◌∙◌, subst, arith, le_refl, ◌≢◌, eqb, eq-eqb, ◌-◌}
 use Rattle.bq_model.specs.declared.op.Op.TheVariants.{Deq}
-use Rattle.bq_model.specs.declared.op.Answer.{Answer}
 use Rattle.bq_model.specs.declared.op.Answer.TheVariants.{Got, Empty}
 use Rattle.bq_model.specs.declared.group.Group.{Group}
 use Rattle.bq_model.specs.Replay.{answers_from, queue_from}
 use Rattle.bq_model.specs.History.{last_queue}
-use Rattle.bq_model.proofs.Histories.{last_queue-push}
 use Rattle.word_rows.specs.declared.place.Place.{Place}
 use Rattle.word_rows.specs.declared.head_word.HeadWord.{HeadWord}
 use Rattle.word_rows.specs.declared.head_word.HeadWord.TheVariants.{Node, Ann}
@@ -16,19 +14,16 @@ use Rattle.word_rows.specs.declared.location.Location.TheVariants.{Head, Link, V
 use Rattle.word_rows.specs.declared.content.Content.TheVariants.{OfHead, OfLink, OfValue}
 use Rattle.core_model.specs.declared.course.Course.TheVariants.{GoesOn, Ends}
 use Rattle.core_model.specs.Functions.{run}
-use Rattle.core_model.specs.LaneSizes.{LaneSizes, item}
-use Rattle.core_model.specs.State.{Memory, Caller, State, write, own_group, head_in, tail_in}
+use Rattle.core_model.specs.LaneSizes.{LaneSizes}
+use Rattle.core_model.specs.State.{Memory, State, write, own_group, head_in, tail_in}
 use Rattle.core_model.specs.Act.{is_node, behind, same_place, location}
-use Rattle.core_model.specs.Fact.{next_is, next_value, linearized_is, is_op, linked}
-use Rattle.core_model.specs.Step.{history_after, followed, ended, step_with, step_at, stepped}
-use Rattle.core_model.specs.Facts.{Holds, AtPoint, Knows}
-use Rattle.core_model.specs.Ghost.{at, Ghost, World}
-use Rattle.core_model.specs.Kept.{Kept}
-use Rattle.core_model.specs.Lawful.{shown_queue, head_word, Listed, ItemRows, Headed, Tailed, Announced, Lawful}
-use Rattle.core_model.proofs.Groups.{mine-push_other}
-use Rattle.core_model.proofs.Stable.{third, fourth, world, some_none, anns_moved, Rely, owns_stable}
-use Rattle.core_model.proofs.Preserves.{known, stutters, preserves, changed, same_places, write_read, rely_history, drafts_same, told_plain, waits_plain, waits_there, allowed_end, linearizes_proper, linearizes_operations, linearizes_groups, linearizes_kept, stutters_at, point_changes}
-use Rattle.core_model.proofs.Announces.{stages_moved}
+use Rattle.core_model.specs.Fact.{next_is, is_op, linked}
+use Rattle.core_model.specs.Step.{history_after, followed, step_with, step_at, stepped}
+use Rattle.core_model.specs.Facts.{Holds, AtPoint}
+use Rattle.core_model.specs.Ghost.{Ghost}
+use Rattle.core_model.specs.Lawful.{Lawful}
+use Rattle.core_model.proofs.Rely.{third, fourth, world}
+use Rattle.core_model.proofs.Preserves.{known, stutters, changed, same_places, write_read, stutters_at, point_changes}
 use Rattle.std.proofs.lemmas.Bool.{and_from}
 use mathlib.Core.Logic.{dite}
 use native.Mathlib.Decide.{dec_le}
@@ -36,7 +31,7 @@ use Rattle.core_model.specs.declared.point.Point.TheVariants.{Idle}
 use Rattle.core_model.specs.Help.{help_of}
 use Rattle.core_model.specs.declared.point.DequeuePoint.{DequeuePoint}
 use Rattle.core_model.proofs.Tails.{exchanges, with_memory}
-use Rattle.core_model.proofs.Lookups.{on_list, is_last, next_found, node_found, finds}
+use Rattle.core_model.proofs.Lookups.{on_list, next_found, node_found, finds}
 use Rattle.bq_model.specs.declared.shape.Shape.{Shape}
 use Rattle.word_rows.specs.declared.content.Content.{Content}
 use Rattle.word_rows.specs.Contents.{MayHold}
@@ -48,6 +43,7 @@ use Rattle.core_model.specs.declared.point.DequeuePoint.TheVariants as deq
 use Rattle.core_model.specs.declared.point.Back.TheVariants as back
 use Rattle.core_model.specs.declared.point.HelpPoint.TheVariants as help
 use Rattle.core_model.specs.Dequeue as dequeue
+use Rattle.core_model.proofs.HeadMoves.{last, bare_queue, none_queued, head_moved, found_empty}
 
 module _ (z : LaneSizes) (s : State) (L : Lawful z s) (c : ℕ) where
   abbrev G : Ghost
@@ -55,24 +51,6 @@ module _ (z : LaneSizes) (s : State) (L : Lawful z s) (c : ℕ) where
 
   abbrev own : Group
   own = own_group c (s.callers c)
-
-  abbrev last : List Answer → Caller
-  last xs = ended (length (s.history ++ own_group c (s.callers c) ∷ [])) c (s.callers c) xs
-
-  -- what the caller of a dequeue knows as it ends
-  rest_facts : (w : World) (xs : List Answer) → (rely : Rely z (λ _. ⊥) (world s L.ghost) w) → Holds z w c (linearized_is false) → (s.callers c).started_at ≤ length w.history
-      → Kept w.history c (last xs) → Knows z w c (last xs)
-  rest_facts w xs rely off since kept = record {
-    unused = λ i from below known. owns_stable z (λ _. ⊥) (world s L.ghost) w rely c (item z c i) (λ x. x) ((L.callers c).knows.unused i from below known);
-    started = since;
-    last = kept;
-    at_point = record { call = (off, tt); here = ((refl, λ _. some), tt) };
-  } where
-    some : IsSome (Some (length (s.history ++ own ∷ [])))
-    some = refl
-
-  since_end : (s.callers c).started_at ≤ length (s.history ++ own_group c (s.callers c) ∷ [])
-  since_end = let from = (L.callers c).knows.started in let total = length-append s.history (own ∷ []) in omega arith
 
   deq_head : (x : HeadWord) → s.memory.head ≡ x → AtPoint z (world s L.ghost) c (s.callers c) (point.Dequeue deq.LoadHead) → Lawful z (step_with z s c (point.Dequeue deq.LoadHead) (OfHead x))
   deq_head (Node p) is f = let node = (node_found z s L c p is).1 in let count = ap (λ (q : Place). q.count) node in
@@ -124,129 +102,40 @@ module _ (z : LaneSizes) (s : State) (L : Lawful z s) (c : ℕ) where
       stutters z s L c (point.Dequeue (deq.MoveHead p n (s.memory.value n))) (Value n) (OfValue (s.memory.value n)) refl
       (record { call = f.call; here = (next, ((third f.here), ((f.here.0, λ e. let y = next.there G.head e in let inside = y.0 in (omega arith, ap s.memory.value y.1)), tt))) })
 
-  module _ (p : Place) (n v : ℕ) (off : Holds z (world s L.ghost) c (linearized_is false)) (op : Holds z (world s L.ghost) c (is_op (s.callers c).ops Deq)) (next : Holds z (world s L.ghost) c (next_is p n))
-      (past : p.count < z.first + L.ghost.tail) (val : Holds z (world s L.ghost) c (next_value p v)) (head : s.memory.head ≡ Node p) where
-    count_is : p.count ≡ z.first + G.head
-    count_is = ap (λ (q : Place). q.count) (node_found z s L c p head).1
+  -- HEAD moves by one row
+  moved : (p : Place) (n v : ℕ) → AtPoint z (world s L.ghost) c (s.callers c) (point.Dequeue (deq.MoveHead p n v)) → s.memory.head ≡ Node p
+      → Lawful z (changed s c (record s.memory { head = Node (behind p n) }) (s.history ++ own_group c (s.callers c) ∷ []) (last z s L c (Got v ∷ [])))
+  moved p n v f head = head_moved z s L c p n 1 (Got v ∷ []) f.call.0 op.1 some head (let l = there.0 in omega arith) (sym (next.there G.head count).1 ∙ ap G.path (let e : suc G.head ≡ G.head + 1 = omega arith in e)) (let l = f.here.1.0 in let cnt = count in omega arith)
+      (ap (λ (q : List ℕ). answers_from q (Deq ∷ [])) (sym queue_was) ∙ ap (answers_from (last_queue s.history)) (sym op.0))
+      (ap (queue_from (last_queue s.history)) op.0 ∙ (ap (λ (q : List ℕ). queue_from q (Deq ∷ [])) queue_was ∙ ap (λ (j : ℕ). run value_at j (G.rest - 1)) (let e : suc (suc G.head) ≡ suc G.head + 1 = omega arith in e))) where
+        op : Holds z (world s L.ghost) c (is_op (s.callers c).ops Deq)
+        op = f.call.1.0
 
-    no_ann : G.ann ≡ None
-    no_ann = (node_found z s L c p head).0
+        next : Holds z (world s L.ghost) c (next_is p n)
+        next = f.here.0
 
-    none_stands : (a : ℕ) → G.ann ≡ Some a → ⊥
-    none_stands a at = some_none (sym at ∙ no_ann)
+        value_at : ℕ → ℕ
+        value_at j = s.memory.value (L.ghost.path j)
 
-    -- nothing lies between the dummy and the shown head
-    bare : G.shown ≡ 0
-    bare = L.list.head.none no_ann
+        count : p.count ≡ z.first + G.head
+        count = ap (λ (q : Place). q.count) (node_found z s L c p head).1
 
-    all_queued : G.queued ≡ G.rest
-    all_queued = let b = bare in let fits = L.list.head.fits in omega arith
+        there : (0 < G.rest) × (value_at (suc G.head) ≡ v)
+        there = (third f.here).1 count
 
-    -- the rows behind the new dummy
-    fewer : (k : ℕ) × (suc k ≡ G.rest)
-    fewer = pred G.rest (val.1 count_is).0 where
-      pred : (k : ℕ) → 0 < k → (j : ℕ) × (suc j ≡ k)
-      pred zero l = absurd (omega arith)
-      pred (suc k) l = (k, refl)
+        some : (s.callers c).ops ≢ []
+        some none = never (sym op.0 ∙ none) where
+          never : Deq ∷ [] ≡ [] → ⊥
+          never e = cc e
 
-    abbrev G' : Ghost
-    G' = record G { head = suc G.head; rest = fewer.0; queued = fewer.0 }
-
-    abbrev memory' : Memory
-    memory' = record s.memory { head = Node (behind p n) }
-
-    abbrev W : World
-    W = record { memory = memory'; history = s.history ++ own ∷ []; ghost = G' }
-
-    same_end : suc G.head + fewer.0 ≡ G.head + G.rest
-    same_end = let e = fewer.1 in omega arith
-
-    rely : Rely z (λ _. ⊥) (world s G) W
-    rely = let e = same_end in record {
-      longer = omega arith;
-      heads = omega arith;
-      tails = le_refl _;
-      path_same = λ _ _. refl;
-      chained_same = λ _ _. refl;
-      spot_own = λ _ u _. u;
-      on_same = λ i r on. (on.spot, ((λ x. on.link.0 (omega arith)), λ x. on.link.1 (omega arith)), refl);
-      link_own = λ _ _ _. refl;
-      value_own = λ _ _ _. refl;
-      value_path = λ _ _ _. refl;
-      anns = anns_moved z (world s G) W refl (λ _ _. refl) (λ _ _ _ e. e) (λ a at. absurd (none_stands a at));
-      more = (own ∷ [], refl);
-    }
-
-    -- the queue before, and what it leaves
-    queue_was : last_queue s.history ≡ v ∷ run (λ i. s.memory.value (G.path i)) (suc (suc G.head)) fewer.0
-    queue_was = L.queue ∙ ((λ i. run (λ j. s.memory.value (G.path j)) (suc (G.head + bare i)) ((all_queued ∙ sym fewer.1) i))
-        ∙ (ap (λ (j : ℕ). run (λ j. s.memory.value (G.path j)) (suc j) (suc fewer.0)) (let e : G.head + 0 ≡ G.head = omega arith in e) ∙ ap (λ (y : ℕ). y ∷ run (λ i. s.memory.value (G.path i)) (suc (suc G.head)) fewer.0) (val.1 count_is).1))
-
-    queue' : last_queue (s.history ++ own ∷ []) ≡ shown_queue s.memory.value G'
-    queue' = last_queue-push s.history own ∙ (ap (queue_from (last_queue s.history)) op.0 ∙ (ap (λ (q : List ℕ). queue_from q (Deq ∷ [])) queue_was
-        ∙ ap (λ (j : ℕ). run (λ i. s.memory.value (G.path i)) (suc j) fewer.0) (let b = bare in let e : suc G.head ≡ suc G.head + G.shown = omega arith in e)))
-
-    right : Got v ∷ [] ≡ answers_from (last_queue s.history) (Deq ∷ [])
-    right = ap (λ (q : List ℕ). answers_from q (Deq ∷ [])) (sym queue_was)
-
-    listed' : Listed z.rows s.memory.link G.path G.chained G.spot (suc G.head) fewer.0
-    listed' = let e = same_end in record {
-      joined = λ i from below. L.list.rows.joined i (omega arith) (omega arith);
-      last = ap (λ (i : ℕ). s.memory.link (G.path i)) e ∙ L.list.rows.last;
-      spots = λ i from below. L.list.rows.spots i (omega arith) (omega arith);
-      inside = λ i below. L.list.rows.inside i (omega arith);
-    }
-
-    items' : ItemRows z G.path (suc G.head) fewer.0 G.shown
-    items' = let e = same_end in λ i above below. L.list.item_rows i (omega arith) (omega arith)
-
-    headed' : Headed z.first (Node (behind p n)) G.path (suc G.head) fewer.0 G.ann G.shown fewer.0
-    headed' = let b = bare in record {
-      named = named ∙ ap (head_word z.first G.path (suc G.head)) (sym no_ann);
-      none = λ _. bare;
-      fits = omega arith;
-    } where
-      named : Node (behind p n) ≡ Node (at z.first G.path (suc G.head))
-      named = let cnt = count_is in λ i. Node (record { row = sym (next.there G.head count_is).1 i; count = (let y : p.count + 1 ≡ z.first + suc G.head = omega arith in y) i })
-
-    tailed' : Tailed z.first s.memory.tail G.path G.chained (suc G.head) fewer.0 G.tail
-    tailed' = let e = same_end in let cnt = count_is in let a = L.list.tail.within in let w = past in record {
-      named = L.list.tail.named;
-      after_head = omega arith;
-      within = omega arith;
-      lags = λ below single. let b = L.list.tail.lags (omega arith) single in omega arith;
-    }
-
-    announced' : Announced z memory' G'
-    announced' = let e = same_end in stages_moved z.first (z.callers * z.callers) G.stage G.ann s.memory.notice s.memory.old_tail G.path G.path G.chained G.chained G.cause G.head (suc G.head) (G.head + G.rest) (suc G.head + fewer.0) G.shown G.shown G.tail G.tail
-        (omega arith) (omega arith) (λ _ _. refl) (λ _ _. refl) (le_refl _) (λ a at. absurd (none_stands a at)) (λ a i at _. absurd (none_stands a at))
-        (λ a i f none. absurd (none_stands a (L.announced.unrecorded a i f none).0))
-        (λ below is. let x = L.announced.lags (omega arith) is in absurd (none_stands x.0 x.2)) L.announced
-
-    pub moved : Lawful z (changed s c memory' (s.history ++ own_group c (s.callers c) ∷ []) (last (Got v ∷ [])))
-    moved = preserves z s L c memory' (s.history ++ own ∷ []) G' (last (Got v ∷ [])) (λ _. ⊥) (λ _ x. absurd x) rely (λ d apart. record { linearized = refl; made = mine-push_other s.history own d apart; drafts = drafts_same z (world s G) W refl refl refl d; unmade = (L.callers d).unmade })
-        (linearizes_proper z s L c Deq off.0 op) queue'
-        (record {
-          rows = listed';
-          item_rows = items';
-          head = headed';
-          tail = tailed';
-          counts = let e = same_end in let more = linearizes_operations z s L c Deq off.0 op in let was = L.list.counts in omega arith;
-          links = L.list.links;
-        })
-        announced' (λ a at. absurd (none_stands a at)) (λ a waits. absurd (none_stands a (L.announced.waits a waits).0))
-        (record {
-          unmade = (L.callers c).unmade;
-          own_groups = linearizes_groups z s L c Deq off.0 op (Got v ∷ []) right;
-          allowed = allowed_end z c (s.callers c) (L.callers c).allowed;
-          knows = rest_facts W (Got v ∷ []) rely off since_end (linearizes_kept z s L c Deq off.0 op (Got v ∷ []) right);
-        })
+        queue_was : last_queue s.history ≡ v ∷ run value_at (suc (suc G.head)) (G.rest - 1)
+        queue_was = bare_queue z s L c (node_found z s L c p head).0 ∙ (ap (run value_at (suc G.head)) (let l = there.0 in let e : G.rest ≡ suc (G.rest - 1) = omega arith in e) ∙ ap (λ (y : ℕ). y ∷ run value_at (suc (suc G.head)) (G.rest - 1)) there.1)
 
   move_head : (p : Place) (n v : ℕ) (x : HeadWord) → s.memory.head ≡ x → (b : Bool) → is_node x p ≡ b → AtPoint z (world s L.ghost) c (s.callers c) (point.Dequeue (deq.MoveHead p n v))
       → Lawful z (changed s c (write s.memory Head (cond b (OfHead (Node (behind p n))) (OfHead x))) (history_after b s.history own)
       (followed (length (history_after b s.history own)) c (s.callers c) (cond b (Ends (Got v)) (GoesOn (point.Dequeue deq.LoadHead)))))
   move_head p n v x is false apart f = stutters z s L c (point.Dequeue deq.LoadHead) Head (OfHead x) (ap OfHead is) (record { call = f.call; here = tt })
-  move_head p n v (Node q) is true same f = moved p n v f.call.0 f.call.1.0 f.here.0 f.here.1.0 (third f.here) (is ∙ ap Node (same_places q p same))
+  move_head p n v (Node q) is true same f = moved p n v f (is ∙ ap Node (same_places q p same))
   move_head p n v (Ann a m) is true same f = absurd (cc same)
 
   preserves_move_head : (p : Place) (n v : ℕ) → (s.callers c).point ≡ point.Dequeue (deq.MoveHead p n v) → Lawful z (step_at z s c (point.Dequeue (deq.MoveHead p n v)))
@@ -254,29 +143,19 @@ module _ (z : LaneSizes) (s : State) (L : Lawful z s) (c : ℕ) where
 
   -- the queue is empty: the command takes effect and ends
   empty : (p : Place) → s.memory.link p.row ≡ Nil → AtPoint z (world s L.ghost) c (s.callers c) (point.Dequeue (deq.LoadLink p)) → Lawful z (step_with z s c (point.Dequeue (deq.LoadLink p)) (OfLink Nil))
-  empty p nil known = subst (λ (m : Memory). Lawful z (changed s c m (s.history ++ own ∷ []) (last (Empty ∷ [])))) (sym (ap (write s.memory (Link p.row)) (ap OfLink (sym nil)) ∙ write_read s.memory (Link p.row)))
-      (preserves z s L c s.memory (s.history ++ own ∷ []) G (last (Empty ∷ [])) (λ _. ⊥) (λ _ x. absurd x) rely (λ d apart. record { linearized = refl; made = mine-push_other s.history own d apart; drafts = drafts_same z (world s G) record { memory = s.memory; history = s.history ++ own ∷ []; ghost = G } refl refl refl d; unmade = (L.callers d).unmade })
-      (linearizes_proper z s L c Deq known.call.0.0 known.call.1.0) queue'
-      (record { rows = L.list.rows; item_rows = L.list.item_rows; head = L.list.head; tail = L.list.tail; counts = let more = linearizes_operations z s L c Deq known.call.0.0 known.call.1.0 in let was = L.list.counts in omega arith; links = L.list.links })
-      L.announced (told_plain z s L c s.memory G (last (Empty ∷ [])) known.call.0.1 L.told) (waits_plain z s L c s.memory G (last (Empty ∷ [])) known.call.0.1 (waits_there z s L c) L.pending)
-      (record {
-        unmade = (L.callers c).unmade;
-        own_groups = linearizes_groups z s L c Deq known.call.0.0 known.call.1.0 (Empty ∷ []) right;
-        allowed = allowed_end z c (s.callers c) (L.callers c).allowed;
-        knows =
-            rest_facts (record { memory = s.memory; history = s.history ++ own ∷ []; ghost = G }) (Empty ∷ []) rely known.call.0 since_end (linearizes_kept z s L c Deq known.call.0.0 known.call.1.0 (Empty ∷ []) right);
-      })) where
-        rely : Rely z (λ _. ⊥) (world s G) record { memory = s.memory; history = s.history ++ own ∷ []; ghost = G }
-        rely = rely_history z s G G.linearized (s.history ++ own ∷ []) (own ∷ [], refl)
+  empty p nil f = subst (λ (m : Memory). Lawful z (changed s c m (s.history ++ own ∷ []) (last z s L c (Empty ∷ [])))) (sym (ap (write s.memory (Link p.row)) (ap OfLink (sym nil)) ∙ write_read s.memory (Link p.row)))
+      (found_empty z s L c (Empty ∷ []) f.call.0 op.1 some (ap (λ (q : List ℕ). answers_from q (Deq ∷ [])) (sym none) ∙ ap (answers_from (last_queue s.history)) (sym op.0))
+      (ap (queue_from (last_queue s.history)) op.0 ∙ (ap (λ (q : List ℕ). queue_from q (Deq ∷ [])) none ∙ sym none))) where
+        op : Holds z (world s L.ghost) c (is_op (s.callers c).ops Deq)
+        op = f.call.1.0
+
+        some : (s.callers c).ops ≢ []
+        some none = never (sym op.0 ∙ none) where
+          never : Deq ∷ [] ≡ [] → ⊥
+          never e = cc e
 
         none : last_queue s.history ≡ []
-        none = let end = is_last z s L c p known.here.0 nil in let seen' = known.here.1.0 in let count = known.here.0.count in let fits = L.list.head.fits in L.queue ∙ ap (run (λ i. s.memory.value (G.path i)) (suc (G.head + G.shown))) (let e : G.queued ≡ 0 = omega arith in e)
-
-        queue' : last_queue (s.history ++ own ∷ []) ≡ shown_queue s.memory.value G
-        queue' = last_queue-push s.history own ∙ (ap (queue_from (last_queue s.history)) known.call.1.0.0 ∙ (ap (λ (q : List ℕ). queue_from q (Deq ∷ [])) none ∙ (sym none ∙ L.queue)))
-
-        right : Empty ∷ [] ≡ answers_from (last_queue s.history) (Deq ∷ [])
-        right = ap (λ (q : List ℕ). answers_from q (Deq ∷ [])) (sym none)
+        none = none_queued z s L c p f.here.0 f.here.1.0 nil
 
   deq_link : (p : Place) (x : LinkWord) → s.memory.link p.row ≡ x → AtPoint z (world s L.ghost) c (s.callers c) (point.Dequeue (deq.LoadLink p)) → Lawful z (step_with z s c (point.Dequeue (deq.LoadLink p)) (OfLink x))
   deq_link p Nil is f = empty p is f

@@ -1,12 +1,12 @@
 -- What a lawful lane says of the commands that have ended.
-use Rattle.std.proofs.Common.{◌≡◌, ◌≢◌, ℕ, ◌+◌, ◌*◌, ◌^◌, ◌<◌, ◌≤◌, Bool, true, false, cond, List, [], ◌∷◌, ◌++◌, length, refl, sym, ap, ◌∙◌, subst, arith, Option, Some, None, IsSome, ltb, leb, ◌&&◌, inl, inr, ⊎_elim, ◌↔◌}
+use Rattle.std.proofs.Common.{◌≡◌, ◌≢◌, ℕ, ◌+◌, ◌*◌, ◌^◌, ◌<◌, ◌≤◌, Bool, true, false, cond, List, [], ◌∷◌, ◌++◌, length, refl, sym, ap, ◌∙◌, subst, arith, Option, Some, None, IsSome, ltb, leb, ◌&&◌, inl, inr, ⊎_elim, ◌↔◌, eqb}
 use Rattle.std.proofs.lemmas.List.{append-nil}
 use Rattle.std.proofs.lemmas.Bool.{ltb-true, lt-ltb, leb-true, leb-false}
 use Rattle.bq_model.specs.declared.op.Op.{Op}
 use Rattle.bq_model.specs.declared.op.Op.TheVariants.{Enq, Deq}
 use Rattle.bq_model.specs.History.{operations}
 use Rattle.excess_count.specs.Excess.{enqueue_count}
-use Rattle.core_model.specs.Start.{IsCommand, LacksRows, anns_taken, first_point, begun, started, refused}
+use Rattle.core_model.specs.Start.{IsCommand, LacksRows, anns_taken, first_point, begun, started, refused, batch_point, draft_of}
 use Rattle.core_model.specs.Batches.{many_count}
 use Rattle.bq_model.specs.declared.group.Group.{Group}
 use Rattle.bq_model.specs.Own.{mine}
@@ -44,7 +44,10 @@ module _ (z : LaneSizes) (s : State) (L : Lawful z s) where
     starts [] some e = absurd (omega arith)
     starts (Enq v ∷ []) some e = cc e
     starts (Deq ∷ []) some e = cc e
-    starts (op ∷ op' ∷ xs) some e = cc e
+    starts (op ∷ op' ∷ xs) some e = of_batch (eqb (enqueue_count (op ∷ op' ∷ xs)) 0) e where
+      of_batch : (b : Bool) → batch_point (op ∷ op' ∷ xs) (draft_of z c (s.callers c) (op ∷ op' ∷ xs)) b ≡ Idle → ⊥
+      of_batch true e = cc e
+      of_batch false e = cc e
 
     more_anns : (b : Bool) → ltb 1 (length ops) ≡ b → z.callers < (s.callers c).made + cond b 1 0 → (1 < length ops) × (z.callers ≤ many_count (mine s.history c))
     more_anns true many more = let n = anns in (ltb-true _ _ many, omega arith)
@@ -56,7 +59,7 @@ module _ (z : LaneSizes) (s : State) (L : Lawful z s) where
     by : (b d : Bool) → leb ((s.callers c).taken + enqueue_count ops) z.items ≡ b → leb ((s.callers c).made + anns_taken ops) z.callers ≡ d
         → ((cond (b && d) (started z (length s.history) c (s.callers c) ops) (refused z (length s.history) c (s.callers c))).point ≡ Idle) ↔ LacksRows z (mine s.history c) ops
     by true true row ann = let below = leb-true _ _ row in let within = leb-true _ _ ann in let n = rows in let m = anns in (
-      (λ e. absurd (starts ops is.0 e)),
+      (λ e. absurd (starts ops is e)),
       λ lacks. ⊎_elim (λ (more : z.items < enqueue_count (operations (mine s.history c)) + enqueue_count ops). absurd (omega arith))
           (λ (many : (1 < length ops) × (z.callers ≤ many_count (mine s.history c))). let one = one_ann many.0 in let most = many.1 in absurd (omega arith)) lacks,
     )

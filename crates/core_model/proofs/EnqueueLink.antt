@@ -17,25 +17,27 @@ use Rattle.core_model.specs.declared.point.Item.{Item}
 use Rattle.core_model.specs.declared.point.Point.TheVariants as point
 use Rattle.core_model.specs.declared.point.EnqueuePoint.TheVariants as enq
 use Rattle.core_model.specs.Functions.{put, run}
-use Rattle.core_model.specs.LaneSizes.{LaneSizes, item, IsItem}
+use Rattle.core_model.specs.LaneSizes.{LaneSizes, IsItem}
 use Rattle.core_model.specs.State.{Memory, Caller, State, own_group}
 use Rattle.core_model.specs.Fact.{linked, owns, holds_item, is_op, linearized_is}
 use Rattle.core_model.specs.Step.{stepped, step_with, step_at}
-use Rattle.core_model.specs.Facts.{Holds, AtPoint, Knows}
+use Rattle.core_model.specs.Facts.{Holds, AtPoint, Knows, NotToCome}
 use Rattle.core_model.specs.Ghost.{at, Ghost, World, positions, joint, Unlinked, LinkAt, On}
 use Rattle.core_model.specs.Kept.{Kept}
 use Rattle.core_model.specs.Lawful.{shown_queue, head_word, Listed, ItemRows, Headed, Tailed, Announced, IsTold, Waits, OwnGroups, Lawful}
 use Rattle.core_model.proofs.Puts.{put_here, put_else, run_last, run_same}
 use Rattle.core_model.proofs.Groups.{mine-push_other}
-use Rattle.core_model.proofs.Stable.{third, fourth, world, anns_same, Rely, owns_stable, kept_stable}
-use Rattle.core_model.proofs.Preserves.{kept_stepped, known, stutters, preserves, changed, drafts_same, told_on, waits_on, waits_there, linearizes_proper, linearizes_operations, linearizes_mine}
+use Rattle.core_model.proofs.Stable.{kept_stable, unused_stable}
+use Rattle.core_model.proofs.Rely.{third, fourth, world, anns_same, Rely}
+use Rattle.core_model.proofs.Preserves.{kept_stepped, known, stutters, preserves, changed, drafts_same, told_on, waits_on, waits_there}
+use Rattle.core_model.proofs.Joins.{linearizes_proper, linearizes_operations, linearizes_mine}
 use Rattle.core_model.specs.Batches.{owner_of}
-use Rattle.core_model.proofs.Announces.{stages_moved, told_same, pending_same, links_put}
+use Rattle.core_model.proofs.Announces.{stages_moved, told_same, pending_same, links_put, rows_within}
 use Rattle.core_model.proofs.Lookups.{is_last}
 
 module _ (z : LaneSizes) (s : State) (L : Lawful z s) (c : ℕ) where
   module _ (x : Item) (p : Place) (off : Holds z (world s L.ghost) c (linearized_is false)) (op : Holds z (world s L.ghost) c (is_op (s.callers c).ops (Enq x.value)))
-      (o : Holds z (world s L.ghost) c (owns (s.callers c).taken x.row)) (full : Holds z (world s L.ghost) c (holds_item x))
+      (o : Holds z (world s L.ghost) c (owns (s.callers c).taken (s.callers c).stopped x.row)) (full : Holds z (world s L.ghost) c (holds_item x))
       (f : Holds z (world s L.ghost) c (linked p)) (seen : p.count ≤ z.first + L.ghost.tail) (nil : s.memory.link p.row ≡ Nil) where
     abbrev G : Ghost
     G = L.ghost
@@ -138,7 +140,7 @@ module _ (z : LaneSizes) (s : State) (L : Lawful z s) (c : ℕ) where
     }
 
     items' : ItemRows z path' G.head (suc G.rest) G.shown
-    items' = λ i above below. each_place (λ i r. IsItem z r) (suc (G.head + G.shown)) (λ i above below. L.list.item_rows i (omega arith) below) o.0.is_item i (omega arith) (omega arith)
+    items' = λ i above below. each_place (λ i r. IsItem z r) (suc (G.head + G.shown)) (λ i above below. L.list.item_rows i (omega arith) below) o.2 i (omega arith) (omega arith)
 
     headed' : Headed z.first s.memory.head path' G.head (suc G.rest) G.ann G.shown (suc G.queued)
     headed' = record {
@@ -185,7 +187,7 @@ module _ (z : LaneSizes) (s : State) (L : Lawful z s) (c : ℕ) where
       link_own = λ r u _. own_link r u;
       value_own = λ _ _ _. refl;
       value_path = λ _ _ _. refl;
-      anns = anns_same z (world s G) W refl refl refl refl refl refl;
+      anns = anns_same z (world s G) W refl refl refl refl refl refl refl;
       more = (own ∷ [], refl);
     }
 
@@ -197,7 +199,7 @@ module _ (z : LaneSizes) (s : State) (L : Lawful z s) (c : ℕ) where
 
     knows' : Knows z W c k'
     knows' = record {
-      unused = λ i from below known. owns_stable z (λ r. r ≡ x.row) (world s G) W rely c (item z c i) (o.1 i from) ((L.callers c).knows.unused i from below known);
+      unused = unused_stable z (λ r. r ≡ x.row) (world s G) W rely c (s.callers c).taken (s.callers c).stopped (λ r e. subst (NotToCome z c (s.callers c).taken (s.callers c).stopped) (sym e) o.1) (L.callers c).knows.unused;
       started = let from = now in let total = length-append s.history (own ∷ []) in omega arith;
       last = kept';
       at_point = record {
@@ -223,7 +225,7 @@ module _ (z : LaneSizes) (s : State) (L : Lawful z s) (c : ℕ) where
     tail_is = let within = L.list.tail.within in let late = seen in let here = count_is in omega arith
 
     announced' : Announced z memory' G'
-    announced' = let at_end = tail_is in stages_moved z.first (z.callers * z.callers) G.stage G.ann s.memory.notice s.memory.old_tail G.path path' G.chained chained' G.cause G.head G.head (G.head + G.rest) (G.head + suc G.rest) G.shown G.shown G.tail G.tail
+    announced' = let at_end = tail_is in stages_moved z.first (z.callers * z.callers) G.stage G.ann s.memory.notice s.memory.old_tail G.span G.path path' G.chained chained' G.cause G.head G.head (G.head + G.rest) (G.head + suc G.rest) G.shown G.shown G.tail G.tail
         (omega arith) (omega arith) (λ i below. old_path i (omega arith)) (λ i below. put_else G.chained e false i (λ is. omega arith)) (le_refl _) (λ _ _. (refl, refl))
         (λ a i at f. (L.announced.standing a i at f).tails) (λ a i f none. (L.announced.unrecorded a i f none).1)
         (λ _ is. absurd (differ (sym is ∙ (ap chained' tail_is ∙ put_here G.chained e false)))) L.announced where
@@ -232,7 +234,7 @@ module _ (z : LaneSizes) (s : State) (L : Lawful z s) (c : ℕ) where
 
     told' : (a : ℕ) → IsTold z memory' G' (put s.callers c k') a
     told' = told_on z s L c memory' G' (point.Enqueue x (enq.MoveTail p x.row)) (inl off.1) (λ a at_head. told_same z.home s.memory.value s.memory.value G.path path' (G.stage a) (s.memory.notice a) (owner_of z a) (s.callers (owner_of z a))
-        (λ i j d from below. let inside = (L.announced.bound a i d).within in ap s.memory.value (old_path j (omega arith))) (L.told a at_head))
+        (λ i j d from below. let inside = rows_within (L.announced.bound a i d) in ap s.memory.value (old_path j (omega arith))) (L.told a at_head))
 
     pending' : (a : ℕ) → Waits z memory' G' (put s.callers c k') a
     pending' = waits_on z s L c memory' G' (point.Enqueue x (enq.MoveTail p x.row)) (λ a waits. let P = L.pending a waits in

@@ -1,20 +1,21 @@
 -- Each step of an enqueue keeps the lane lawful.
-use Rattle.std.proofs.Common.{◌≡◌, inl, ℕ, suc, ◌+◌, ◌<◌, ◌≤◌, false, [], length, sym, refl, ap, ◌∙◌, arith, le_refl, Some, None, ◌∷◌, Bool, true, cond}
+use Rattle.std.proofs.Common.{◌≡◌, inl, ℕ, suc, ◌+◌, ◌<◌, ◌≤◌, false, [], length, sym, refl, ap, ◌∙◌, arith, le_refl, Some, None, ◌∷◌, Bool, true, cond, subst}
 use Rattle.std.proofs.lemmas.List.{append-nil}
 use Rattle.bq_model.specs.declared.op.Op.TheVariants.{Enq}
 use Rattle.core_model.specs.declared.point.Item.{Item}
 use Rattle.core_model.specs.Functions.{put}
-use Rattle.core_model.specs.LaneSizes.{LaneSizes, item}
+use Rattle.core_model.specs.LaneSizes.{LaneSizes}
 use Rattle.core_model.specs.State.{Memory, Caller, State, link_in}
 use Rattle.core_model.specs.Fact.{owns, is_op, linearized_is}
 use Rattle.core_model.specs.Step.{stepped, step_at, step_with, ended}
-use Rattle.core_model.specs.Facts.{Owns, Holds, AtPoint}
+use Rattle.core_model.specs.Facts.{Owns, Holds, AtPoint, NotToCome}
 use Rattle.core_model.specs.Ghost.{Ghost, World, positions}
 use Rattle.core_model.specs.Lawful.{Lawful}
 use Rattle.core_model.proofs.Puts.{put_here, put_else, run_same}
-use Rattle.core_model.proofs.Stable.{third, world, anns_same, Rely, owns_stable}
+use Rattle.core_model.proofs.Stable.{unused_stable}
+use Rattle.core_model.proofs.Rely.{third, world, anns_same, Rely}
 use Rattle.core_model.proofs.Preserves.{kept_stepped, known, preserves, changed, drafts_same, told_on, waits_on, waits_there, stutters, point_changes, finishes}
-use Rattle.core_model.proofs.Announces.{told_same, pending_same}
+use Rattle.core_model.proofs.Announces.{told_same, pending_same, rows_within}
 use Rattle.core_model.specs.Batches.{owner_of}
 use Rattle.word_rows.specs.declared.place.Place.{Place}
 use Rattle.word_rows.specs.declared.head_word.HeadWord.{HeadWord}
@@ -45,7 +46,7 @@ use Rattle.core_model.specs.declared.point.HelpPoint.TheVariants as help
 use Rattle.core_model.specs.Enqueue as enqueue
 
 module _ (z : LaneSizes) (s : State) (L : Lawful z s) (c : ℕ) (x : Item) (off : Holds z (world s L.ghost) c (linearized_is false)) (op : Holds z (world s L.ghost) c (is_op (s.callers c).ops (Enq x.value)))
-    (own : Holds z (world s L.ghost) c (owns (s.callers c).taken x.row)) where
+    (own : Holds z (world s L.ghost) c (owns (s.callers c).taken (s.callers c).stopped x.row)) where
   abbrev G : Ghost
   G = L.ghost
 
@@ -82,12 +83,12 @@ module _ (z : LaneSizes) (s : State) (L : Lawful z s) (c : ℕ) (x : Item) (off 
     link_own = λ _ _ _. refl;
     value_own = λ r _ apart. put_else s.memory.value x.row x.value r apart;
     value_path = on_path;
-    anns = anns_same z (world s G) W refl refl refl refl refl refl;
+    anns = anns_same z (world s G) W refl refl refl refl refl refl refl;
     more = ([], sym (append-nil s.history));
   }
 
   row : Owns z W c x.row
-  row = record { at_home = own.0.at_home; inside = own.0.inside; is_item = own.0.is_item; unlinked = own.0.unlinked; nil = own.0.nil }
+  row = record { at_home = own.0.at_home; inside = own.0.inside; unlinked = own.0.unlinked; nil = own.0.nil }
 
   pub value_stored : Lawful z (changed s c memory' s.history k')
   value_stored = preserves z s L c memory' s.history G k' (λ r. r ≡ x.row) (λ r e. ap z.home e ∙ own.0.at_home) rely
@@ -97,7 +98,7 @@ module _ (z : LaneSizes) (s : State) (L : Lawful z s) (c : ℕ) (x : Item) (off 
       (record { rows = L.list.rows; item_rows = L.list.item_rows; head = L.list.head; tail = L.list.tail; counts = L.list.counts; links = L.list.links })
       L.announced
       (told_on z s L c memory' G (point.Enqueue x enq.LoadTail) (inl off.1) (λ a at_head. told_same z.home s.memory.value value' G.path G.path (G.stage a) (s.memory.notice a) (owner_of z a) (s.callers (owner_of z a))
-      (λ i j d from below. let inside = (L.announced.bound a i d).within in let head = (L.announced.standing a i at_head d).from in on_path j (omega arith) (omega arith)) (L.told a at_head)))
+      (λ i j d from below. let inside = rows_within (L.announced.bound a i d) in let head = (L.announced.standing a i at_head d).from in on_path j (omega arith) (omega arith)) (L.told a at_head)))
       (waits_on z s L c memory' G (point.Enqueue x enq.LoadTail) (λ a waits. let p = L.pending a waits in pending_same z s.memory.link s.memory.link s.memory.value value' G.spot G.spot G.chain (G.linearized (owner_of z a)) (G.linearized (owner_of z a)) (s.memory.notice a) (owner_of z a) (s.callers (owner_of z a))
       (λ _ _. refl) (λ i below. put_else s.memory.value x.row x.value (G.chain i) (λ e. off.1 a (waits_there z s L c a waits) (sym (p.homes i below) ∙ (ap z.home e ∙ own.0.at_home)))) p.unlinked refl p))
       (record {
@@ -105,10 +106,10 @@ module _ (z : LaneSizes) (s : State) (L : Lawful z s) (c : ℕ) (x : Item) (off 
         own_groups = (L.callers c).own_groups;
         allowed = (L.callers c).allowed;
         knows = let f = (L.callers c).knows in record {
-          unused = λ i from below at. owns_stable z (λ r. r ≡ x.row) (world s G) W rely c (item z c i) (own.1 i from) (f.unused i from below at);
+          unused = unused_stable z (λ r. r ≡ x.row) (world s G) W rely c (s.callers c).taken (s.callers c).stopped (λ r e. subst (NotToCome z c (s.callers c).taken (s.callers c).stopped) (sym e) own.1) f.unused;
           started = f.started;
           last = (kept_stepped s.history c (s.callers c) (point.Enqueue x enq.LoadTail) (s.callers c).values f.last);
-          at_point = record { call = (off, (op, ((row, own.1), ((row, put_here s.memory.value x.row x.value), tt)))); here = tt };
+          at_point = record { call = (off, (op, ((row, own.1, own.2), ((row, put_here s.memory.value x.row x.value), tt)))); here = tt };
         };
       })
 

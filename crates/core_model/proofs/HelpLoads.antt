@@ -1,7 +1,7 @@
 -- A helper reads the announcement and TAIL, moves TAIL by one row, and records the old tail.
-use Rattle.std.proofs.Common.{◌≡◌, ◌≢◌, ℕ, suc, ◌+◌, ◌<◌, ◌≤◌, eqb, Bool, true, false, cond, [], sym, refl, ap, ◌∙◌, arith, le_refl, Option, Some, None}
+use Rattle.std.proofs.Common.{◌≡◌, ◌≢◌, ℕ, suc, ◌+◌, ◌<◌, ◌≤◌, eqb, Bool, true, false, cond, [], sym, refl, ap, ◌∙◌, arith, le_refl, Option, Some, None, leb, ◌&&◌, eqb-true}
 use Rattle.std.proofs.lemmas.List.{append-nil}
-use Rattle.std.proofs.lemmas.Bool.{eqb-true}
+use Rattle.std.proofs.lemmas.Bool.{eqb-true, leb-true, leb-false, eqb-false}
 use Rattle.word_rows.specs.declared.place.Place.{Place}
 use Rattle.word_rows.specs.declared.head_word.HeadWord.TheVariants.{Node}
 use Rattle.word_rows.specs.declared.link_word.LinkWord.{LinkWord}
@@ -16,16 +16,19 @@ use Rattle.core_model.specs.Functions.{put}
 use Rattle.core_model.specs.LaneSizes.{LaneSizes}
 use Rattle.core_model.specs.State.{Memory, State, write}
 use Rattle.core_model.specs.Act.{same_place}
-use Rattle.core_model.specs.Fact.{reads, linked, stands_at, is_old_tail}
+use Rattle.core_model.specs.Fact.{reads, linked, stands_at, is_old_tail, before_end}
 use Rattle.core_model.specs.Step.{stepped, step_with, step_at}
 use Rattle.core_model.specs.Facts.{IsDecidedBehind, Holds, AtPoint}
 use Rattle.core_model.specs.Ghost.{Stage, unused, waiting, decided, Ghost, World, positions, at}
 use Rattle.core_model.specs.Lawful.{Lawful}
 use Rattle.core_model.proofs.Puts.{put_here, put_else, put_all}
-use Rattle.core_model.proofs.Stable.{third, world, unused_decides, waits_decides, one_position, one_some, some_none, anns_moved, Rely}
+use Rattle.core_model.proofs.Rely.{third, world, unused_decides, waits_decides, one_position, one_some, some_none, anns_moved, Rely}
 use Rattle.core_model.proofs.Preserves.{caller_stable, known, stutters, point_changes, changed}
 use Rattle.core_model.proofs.Tails.{exchanges, with_memory}
 use Rattle.core_model.proofs.Lookups.{on_list, next_found}
+use Rattle.core_model.proofs.Counting.{chain_pos}
+use Rattle.core_model.proofs.HelpWalk.{known_old}
+use Rattle.core_model.specs.Help.{at_old_tail, has_enough, before_it}
 
 -- an installed announcement whose OldTail is known is decided
 pub decided_known : (z : LaneSizes) (s : State) (L : Lawful z s) (a : ℕ) (q : Place) → L.ghost.stage a ≢ unused → s.memory.old_tail a ≡ Some q → (i : ℕ) × (L.ghost.stage a ≡ decided i)
@@ -65,31 +68,28 @@ module _ (z : LaneSizes) (s : State) (L : Lawful z s) (c : ℕ) where
       (record { call = f.call; here = (on_list z s L c s.memory.tail G.tail count (ap (λ (p : Place). p.row) L.list.tail.named) from (omega arith), (omega arith, ((f.call.0.installed, λ _. omega arith), tt))) })
 
   -- where OldTail isn't known, the tail that was read before is no later than the old tail
-  old_tail_loaded : (h : Help) (p : Place) (x : Option Place) → s.memory.old_tail h.ann ≡ x → AtPoint z (world s L.ghost) c (s.callers c) (point.Help h (help.LoadOldTail p)) → Lawful z (step_with z s c (point.Help h (help.LoadOldTail p)) (OfOldTail x))
-  old_tail_loaded h p None is f = stutters z s L c (point.Help h (help.LoadLink p)) (AnnWord h.ann field.OldTail) (OfOldTail None) (ap OfOldTail is) record {
-    call = f.call;
-    here = (
-      f.here.0,
-      (
-        f.here.1.0,
-        (
-          (third f.here),
-          (
-            (
-              f.call.0.installed,
-              λ i e. let on = f.here.0 in let below = on.on.inside in let count = on.count in let late = f.here.1.0 in (
-                omega arith,
-                λ j d. let late_tail = (L.announced.unrecorded h.ann j d is).1 in let b = L.announced.bound h.ann j d in let some = b.some in let within = b.within in omega arith,
-              ),
-            ),
-            tt,
-          ),
-        ),
+  module _ (h : Help) (p : Place) (none : s.memory.old_tail h.ann ≡ None) (f : AtPoint z (world s L.ghost) c (s.callers c) (point.Help h (help.LoadOldTail p))) where
+    linked_end : Holds z (world s L.ghost) c (before_end h.ann p)
+    linked_end = (
+      f.call.0.installed,
+      λ i e. let on = f.here.0 in let below = on.on.inside in let count = on.count in let late = f.here.1.0 in (
+        omega arith,
+        λ j d _. let open_end = L.announced.unrecorded h.ann j d none in let late_tail = open_end.1 in let some = open_end.2 in let within = (L.announced.bound h.ann j d).within in omega arith,
       ),
-    );
-  }
+    )
+
+    -- whether dequeues alone find enough before that tail
+    by_length : (a b : Bool) → eqb h.counts.enqs 0 ≡ a → leb h.counts.deqs (before_it h p) ≡ b
+        → AtPoint z (world s L.ghost) c (stepped (s.callers c) (point.Help h (cond (a && b) (help.Decide p) (help.LoadLink p)))) (point.Help h (cond (a && b) (help.Decide p) (help.LoadLink p)))
+    by_length true true ea eb = record { call = f.call; here = (f.here.0, (f.here.1.0, (third f.here, ((eqb-true h.counts.enqs 0 ea, leb-true h.counts.deqs (before_it h p) eb), tt)))) }
+    by_length true false ea eb = let few = leb-false h.counts.deqs (before_it h p) eb in record { call = f.call; here = (f.here.0, (f.here.1.0, (third f.here, (linked_end, ((λ _. few), tt))))) }
+    by_length false b ea eb = let some = eqb-false h.counts.enqs 0 ea in record { call = f.call; here = (f.here.0, (f.here.1.0, (third f.here, (linked_end, ((λ e. absurd (some e)), tt))))) }
+
+  old_tail_loaded : (h : Help) (p : Place) (x : Option Place) → s.memory.old_tail h.ann ≡ x → AtPoint z (world s L.ghost) c (s.callers c) (point.Help h (help.LoadOldTail p)) → Lawful z (step_with z s c (point.Help h (help.LoadOldTail p)) (OfOldTail x))
+  old_tail_loaded h p None is f = stutters z s L c (point.Help h (cond (has_enough h p) (help.Decide p) (help.LoadLink p))) (AnnWord h.ann field.OldTail) (OfOldTail None) (ap OfOldTail is)
+      (by_length h p is f (eqb h.counts.enqs 0) (leb h.counts.deqs (before_it h p)) refl refl)
   old_tail_loaded h p (Some q) is f = let d = decided_known z s L h.ann q f.call.0.installed is in
-      stutters z s L c (point.Help h (help.LoadTailOver q)) (AnnWord h.ann field.OldTail) (OfOldTail (Some q)) (ap OfOldTail is) (record { call = f.call; here = (record { position = d.0; is_decided = d.1; old_tail = is }, tt) })
+      stutters z s L c (point.Help h (at_old_tail h q)) (AnnWord h.ann field.OldTail) (OfOldTail (Some q)) (ap OfOldTail is) (known_old z s L c h q f.call.0 (record { position = d.0; is_decided = d.1; old_tail = is }) f.call.1)
 
   pub preserves_help_old_tail : (h : Help) (p : Place) → (s.callers c).point ≡ point.Help h (help.LoadOldTail p) → Lawful z (step_at z s c (point.Help h (help.LoadOldTail p)))
   preserves_help_old_tail h p is = old_tail_loaded h p (s.memory.old_tail h.ann) refl (known z s L c (point.Help h (help.LoadOldTail p)) is)
@@ -107,10 +107,15 @@ module _ (z : LaneSizes) (s : State) (L : Lawful z s) (c : ℕ) where
     by : G.ann ≡ Some h.ann → (x : Stage) → G.stage h.ann ≡ x → IsDecidedBehind z (world s L.ghost) h.ann p
     by at_head unused e = absurd (r.installed e)
     by at_head waiting e = let P = L.pending h.ann e in let from = stood.1 at_head in let count = on.count in let below = next.0 in
-        absurd (some_none (sym (L.list.rows.spots (suc on.position) (omega arith) (omega arith)) ∙ (ap G.spot (first_is ∙ sym P.starts) ∙ P.unlinked 0 P.some)))
-    by at_head (decided i) e = let from = stood.1 at_head in let count = on.count in let below = next.0 in let b = L.announced.bound h.ann i e in let some = b.some in let within = b.within in let after = (L.announced.standing h.ann i at_head e).from in
-        let same = one_some (sym (L.list.rows.spots (suc i) (omega arith) (omega arith)) ∙ (ap G.spot (b.starts ∙ sym first_is) ∙ L.list.rows.spots (suc on.position) (omega arith) (omega arith))) in let here : on.position ≡ i = omega arith in
-        record { position = i; is_decided = e; inside = omega arith; place = λ y. record { row = (sym on.on.row ∙ ap G.path here) y; count = (on.count ∙ ap (λ (x : ℕ). z.first + x) here) y } }
+        absurd (some_none (sym (L.list.rows.spots (suc on.position) (omega arith) (omega arith)) ∙ (ap G.spot (first_is ∙ sym P.starts) ∙ P.unlinked 0 (chain_pos (s.memory.notice h.ann).counts))))
+    by at_head (decided i) e = let b = L.announced.bound h.ann i e in let within = b.within in record {
+      position = i;
+      is_decided = e;
+      inside = omega arith;
+      place = λ some. let from = stood.1 at_head in let count = on.count in let below = next.0 in let after = (L.announced.standing h.ann i at_head e).from in let more = some in
+          let same = one_some (sym (L.list.rows.spots (suc i) (omega arith) (omega arith)) ∙ (ap G.spot (b.starts some ∙ sym first_is) ∙ L.list.rows.spots (suc on.position) (omega arith) (omega arith))) in let here : on.position ≡ i = omega arith in
+          λ y. record { row = (sym on.on.row ∙ ap G.path here) y; count = (on.count ∙ ap (λ (x : ℕ). z.first + x) here) y };
+    }
 
   help_linked : (h : Help) (p : Place) (x : LinkWord) → s.memory.link p.row ≡ x → AtPoint z (world s L.ghost) c (s.callers c) (point.Help h (help.LoadLink p)) → Lawful z (step_with z s c (point.Help h (help.LoadLink p)) (OfLink x))
   help_linked h p Nil is f = stutters z s L c (point.Help h (help.LinkChain p)) (Link p.row) (OfLink Nil) (ap OfLink is) f
@@ -134,7 +139,7 @@ module _ (z : LaneSizes) (s : State) (L : Lawful z s) (c : ℕ) where
     placed : (i : ℕ) × (G.stage a ≡ decided i) × (p ≡ at z.first G.path i)
     placed = by (G.stage a) refl where
       stood : G.ann ≡ Some a → (i : ℕ) × (G.stage a ≡ decided i) × (p ≡ at z.first G.path i)
-      stood at_head = let x = old.1 at_head in (x.position, x.is_decided, x.place)
+      stood at_head = let x = old.1 at_head in (x.position, x.is_decided, x.place (L.announced.unrecorded a x.position x.is_decided none).2)
 
       by : (x : Stage) → G.stage a ≡ x → (i : ℕ) × (G.stage a ≡ decided i) × (p ≡ at z.first G.path i)
       by unused e = absurd (old.0 e)
@@ -165,7 +170,7 @@ module _ (z : LaneSizes) (s : State) (L : Lawful z s) (c : ℕ) where
       link_own = λ _ _ _. refl;
       value_own = λ _ _ _. refl;
       value_path = λ _ _ _. refl;
-      anns = anns_moved z (world s G) R refl (λ _ _. refl) (λ x q _ is. put_else s.memory.old_tail a (Some p) x (λ e. some_none (sym is ∙ (ap s.memory.old_tail e ∙ none))) ∙ is) (λ x at_head. (at_head, refl, refl));
+      anns = anns_moved z (world s G) R refl refl (λ _ _. refl) (λ x q _ is. put_else s.memory.old_tail a (Some p) x (λ e. some_none (sym is ∙ (ap s.memory.old_tail e ∙ none))) ∙ is) (λ x at_head. (at_head, refl, refl));
       more = ([], sym (append-nil s.history));
     }
 
@@ -185,7 +190,7 @@ module _ (z : LaneSizes) (s : State) (L : Lawful z s) (c : ℕ) where
         unknown = λ x e. put_else s.memory.old_tail a (Some p) x (λ same. waits_decides e (ap G.stage same ∙ placed.1)) ∙ A.unknown x e;
         recorded = λ x i q e. put_all s.memory.old_tail a (Some p) (λ x y. (i : ℕ) → G.stage x ≡ decided i → y ≡ Some q → q ≡ at z.first G.path i)
             (λ i e is. sym (one_some is) ∙ (placed.2 ∙ ap (at z.first G.path) (one_position placed.1 e))) (λ x _ i e is. A.recorded x i q e is) x i e;
-        unrecorded = λ x i e. put_all s.memory.old_tail a (Some p) (λ x y. (i : ℕ) → G.stage x ≡ decided i → y ≡ None → (G.ann ≡ Some x) × (G.tail ≤ i))
+        unrecorded = λ x i e. put_all s.memory.old_tail a (Some p) (λ x y. (i : ℕ) → G.stage x ≡ decided i → y ≡ None → (G.ann ≡ Some x) × (G.tail ≤ i) × (0 < G.span x))
             (λ i _ is. absurd (some_none is)) (λ x _ i e is. A.unrecorded x i e is) x i e;
         lags = A.lags;
       };
@@ -197,9 +202,9 @@ module _ (z : LaneSizes) (s : State) (L : Lawful z s) (c : ℕ) where
   tail_recorded : (h : Help) (p : Place) (x : Option Place) → s.memory.old_tail h.ann ≡ x → (s.callers c).point ≡ point.Help h (help.RecordTail p) → Lawful z (step_with z s c (point.Help h (help.RecordTail p)) (OfOldTail x))
   tail_recorded h p None at_none is = let f = known z s L c (point.Help h (help.RecordTail p)) is in let m : Memory = record s.memory { old_tail = put s.memory.old_tail h.ann (Some p) } in let s' : State = record { memory = m; history = s.history; callers = s.callers } in
       let L' : Lawful z s' = recorded h.ann p f.here.0 at_none in let k = known z s' L' c (point.Help h (help.RecordTail p)) is in let known_tail = put_here s.memory.old_tail h.ann (Some p) in let d = decided_known z s' L' h.ann p k.call.0.installed known_tail in
-      point_changes z s' L' c (point.Help h (help.LoadTailOver p)) (record { call = k.call; here = (record { position = d.0; is_decided = d.1; old_tail = known_tail }, tt) })
+      point_changes z s' L' c (point.Help h (at_old_tail h p)) (known_old z s' L' c h p k.call.0 (record { position = d.0; is_decided = d.1; old_tail = known_tail }) k.call.1)
   tail_recorded h p (Some q) at_some is = let f = known z s L c (point.Help h (help.RecordTail p)) is in let d = decided_known z s L h.ann q f.call.0.installed at_some in
-      stutters z s L c (point.Help h (help.LoadTailOver q)) (AnnWord h.ann field.OldTail) (OfOldTail (Some q)) (ap OfOldTail at_some) (record { call = f.call; here = (record { position = d.0; is_decided = d.1; old_tail = at_some }, tt) })
+      stutters z s L c (point.Help h (at_old_tail h q)) (AnnWord h.ann field.OldTail) (OfOldTail (Some q)) (ap OfOldTail at_some) (known_old z s L c h q f.call.0 (record { position = d.0; is_decided = d.1; old_tail = at_some }) f.call.1)
 
   pub preserves_record_tail : (h : Help) (p : Place) → (s.callers c).point ≡ point.Help h (help.RecordTail p) → Lawful z (step_at z s c (point.Help h (help.RecordTail p)))
   preserves_record_tail h p is = tail_recorded h p (s.memory.old_tail h.ann) refl is

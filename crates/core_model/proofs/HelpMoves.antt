@@ -1,134 +1,33 @@
--- A helper moves TAIL over the chain, walks to the new dummy, and moves HEAD to it.
-use Rattle.std.proofs.Common.{◌≡◌, inr, ⊎_elim, ℕ, zero, suc, ◌+◌, ◌-◌, ◌*◌, ◌<◌, ◌≤◌, eqb, ltb, Bool, true, false, cond, [], sym, refl, ap, ◌∙◌, subst, arith, le_refl, eq-eqb, Some, None}
+-- A helper moves TAIL over the rows that were linked, walks on, and moves HEAD to the new dummy.
+use Rattle.std.proofs.Common.{◌≡◌, inr, ℕ, suc, ◌+◌, ◌*◌, ◌<◌, ◌≤◌, eqb, Bool, true, false, cond, [], sym, refl, ap, ◌∙◌, subst, arith, le_refl, eq-eqb, Some, None}
 use Rattle.std.proofs.lemmas.List.{append-nil}
-use Rattle.std.proofs.lemmas.Bool.{eqb-true, and_from, and_parts, lt-ltb}
-use mathlib.Core.Logic.{dite}
-use native.Mathlib.Decide.{dec_le}
+use Rattle.std.proofs.lemmas.Bool.{eqb-true, and_from, and_parts}
 use Rattle.word_rows.specs.declared.place.Place.{Place}
-use Rattle.excess_count.specs.declared.counts.Counts.{Counts}
 use Rattle.word_rows.specs.declared.head_word.HeadWord.{HeadWord}
 use Rattle.word_rows.specs.declared.head_word.HeadWord.TheVariants.{Node, Ann}
 use Rattle.word_rows.specs.declared.link_word.LinkWord.{LinkWord}
 use Rattle.word_rows.specs.declared.link_word.LinkWord.TheVariants.{Nil, Single, Chain, Shut}
 use Rattle.word_rows.specs.declared.location.Location.TheVariants.{Head, Tail, Link}
 use Rattle.word_rows.specs.declared.content.Content.TheVariants.{OfHead, OfTail, OfLink}
-use Rattle.core_model.specs.declared.point.Back.{Back}
-use Rattle.core_model.specs.declared.point.Back.TheVariants as back
 use Rattle.core_model.specs.declared.point.Help.{Help}
 use Rattle.core_model.specs.declared.point.Point.TheVariants as point
 use Rattle.core_model.specs.declared.point.HelpPoint.TheVariants as help
 use Rattle.core_model.specs.Functions.{run}
 use Rattle.core_model.specs.LaneSizes.{LaneSizes}
-use Rattle.excess_count.specs.Counts.{successes_of}
-use Rattle.core_model.specs.State.{Memory, Caller, command, State, write}
+use Rattle.core_model.specs.State.{Memory, State, write}
 use Rattle.core_model.specs.Act.{same_place, is_ann, far_behind}
-use Rattle.core_model.specs.Fact.{reads, old_tail_is, tail_over, gets_so_many, walks}
-use Rattle.core_model.specs.Help.{before_it, walk_on, walk, back_point, back_facts}
+use Rattle.core_model.specs.Fact.{reads, old_tail_is, tail_over, gets_so_many, walks, has_links}
+use Rattle.core_model.specs.Help.{before_it, walk_on, walk, back_point}
 use Rattle.core_model.specs.Step.{stepped, step_with, step_at}
-use Rattle.core_model.specs.Facts.{Holds, Each, AtPoint}
+use Rattle.core_model.specs.Facts.{Holds, AtPoint}
 use Rattle.core_model.specs.Ghost.{waiting, decided, Ghost, World, joint, at}
 use Rattle.core_model.specs.Lawful.{head_word, LinksIn, Bound, Announced, Lawful}
-use Rattle.core_model.proofs.Stable.{third, world, waits_decides, one_position, one_some, some_none, anns_same, anns_moved, Rely}
+use Rattle.core_model.proofs.Rely.{third, world, waits_decides, one_position, one_some, some_none, anns_same, anns_moved, Rely}
 use Rattle.core_model.proofs.Preserves.{caller_stable, known, stutters, point_changes, changed, same_places, drafts_same}
 use Rattle.core_model.proofs.Announces.{stages_moved}
 use Rattle.core_model.proofs.Lookups.{ann_stands, not_ann}
-
-differ : true ≡ false → ⊥
-differ e = cc e
-
-same_place_refl : (p q : Place) → p ≡ q → same_place p q ≡ true
-same_place_refl p q e = and_from (eqb p.row q.row) (eqb p.count q.count) (eq-eqb p.row q.row (ap (λ (x : Place). x.row) e)) (eq-eqb p.count q.count (ap (λ (x : Place). x.count) e))
-
--- TAIL isn't the old tail of the announcement that stands, so it is past the rows
-past_old : (z : LaneSizes) (s : State) (L : Lawful z s) (a i : ℕ) (q : Place) → L.ghost.stage a ≡ decided i → s.memory.old_tail a ≡ Some q → (s.memory.tail ≡ q → ⊥) → L.ghost.ann ≡ Some a
-    → i + (s.memory.notice a).counts.enqs ≤ L.ghost.tail
-past_old z s L a i q d old apart at_head = ⊎_elim (λ (here : L.ghost.tail ≡ i). absurd (apart (L.list.tail.named ∙ (ap (at z.first L.ghost.path) here ∙ sym (L.announced.recorded a i q d old)))))
-    (λ (past : i + (s.memory.notice a).counts.enqs ≤ L.ghost.tail). past) (L.announced.standing a i at_head d).tails
-
-module _ (z : LaneSizes) (s : State) (L : Lawful z s) (c : ℕ) where
-  abbrev k : Caller
-  k = s.callers c
-
-  -- what the helper knows at the row r, with l links to go
-  on_walk : (h : Help) (m r l : ℕ) → Holds z (world s L.ghost) c (reads 4 h) → Holds z (world s L.ghost) c (walks h.ann r l) → Holds z (world s L.ghost) c (gets_so_many h m) → Holds z (world s L.ghost) c (tail_over h.ann)
-      → Each z (world s L.ghost) c (back_facts c (command (s.callers c)) h.ann h.back) → AtPoint z (world s L.ghost) c (stepped (s.callers c) (point.Help h (walk_on m r l))) (point.Help h (walk_on m r l))
-  on_walk h m r zero reading w g t rest = record { call = (reading, rest); here = (w, (g, (t, tt))) }
-  on_walk h m r (suc l) reading w g t rest = record { call = (reading, rest); here = (w, (g, (t, tt))) }
-
-  -- and after the help, where the announcement has left HEAD
-  goes_back : (h : Help) (b : Back) → (L.ghost.ann ≡ Some h.ann → ⊥) → Holds z (world s L.ghost) c (reads 4 h) → Holds z (world s L.ghost) c (tail_over h.ann) → Each z (world s L.ghost) c (back_facts c (command (s.callers c)) h.ann b)
-      → AtPoint z (world s L.ghost) c (stepped (s.callers c) (back_point h b)) (back_point h b)
-  goes_back h back.Own gone reading t rest = record { call = (((rest.0.stands t.position t.is_decided).0, λ x at_x own. gone (at_x ∙ ap Some (rest.0.only x at_x own))), tt); here = (reading, (t, rest)) }
-  goes_back h (back.Enqueue x) gone reading t rest = record { call = rest; here = tt }
-  goes_back h back.Dequeue gone reading t rest = record { call = rest; here = tt }
-  goes_back h (back.Batch d) gone reading t rest = record { call = (rest.0, (rest.1.0, tt)); here = rest.1.1 }
-
-  -- the walk begins
-  module _ (h : Help) (q : Place) (reading : Holds z (world s L.ghost) c (reads 4 h)) (old : Holds z (world s L.ghost) c (old_tail_is h.ann q))
-      (over : L.ghost.ann ≡ Some h.ann → old.position + (s.memory.notice h.ann).counts.enqs ≤ L.ghost.tail) (rest : Each z (world s L.ghost) c (back_facts c (command (s.callers c)) h.ann h.back)) where
-    abbrev G : Ghost
-    G = L.ghost
-
-    abbrev n : ℕ
-    n = before_it h q
-
-    abbrev m : ℕ
-    m = successes_of h.counts (before_it h q)
-
-    abbrev i : ℕ
-    i = old.position
-
-    B : Bound z.first G.path G.chained G.cause (G.head + G.rest) G.tail (s.memory.notice h.ann) h.ann old.position
-    B = L.announced.bound h.ann old.position old.is_decided
-
-    q_is : q ≡ at z.first G.path old.position
-    q_is = L.announced.recorded h.ann old.position q old.is_decided old.old_tail
-
-    old_head_is : h.old_head ≡ at z.first G.path B.old_dummy.0
-    old_head_is = sym (reading.old_head (omega arith)) ∙ B.old_dummy.1
-
-    n_is : n ≡ old.position - B.old_dummy.0
-    n_is = let qc = ap (λ (p : Place). p.count) q_is in let hc = ap (λ (p : Place). p.count) old_head_is in omega arith
-
-    counts_is : (s.memory.notice h.ann).counts ≡ h.counts
-    counts_is = reading.counts (omega arith)
-
-    -- while it stands, its old dummy is the dummy
-    dummy_is : G.ann ≡ Some h.ann → B.old_dummy.0 ≡ G.head
-    dummy_is at_head = let e = ap (λ (p : Place). p.count) (sym B.old_dummy.1 ∙ L.announced.old_head h.ann at_head) in omega arith
-
-    so_many : Holds z (world s L.ghost) c (gets_so_many h m)
-    so_many = record {
-      position = old.position;
-      is_decided = old.is_decided;
-      shown = (λ at_head. (L.announced.standing h.ann old.position at_head old.is_decided).shows ∙ (λ y. successes_of (counts_is y) ((let e = n_is in let d = dummy_is at_head in let f : old.position - G.head ≡ n = omega arith in f) y)));
-      inside = let e = n_is in let covered = B.covered in let within = B.within in let before = B.old_dummy.2 in let hc = ap (λ (p : Place). p.count) old_head_is in
-          let enqs = ap (λ (y : Counts). y.enqs) counts_is in let deqs = ap (λ (y : Counts). y.deqs) counts_is in let excess = ap (λ (y : Counts). y.excess) counts_is in omega arith;
-    }
-
-    tails : Holds z (world s L.ghost) c (tail_over h.ann)
-    tails = record { position = old.position; is_decided = old.is_decided; known = (q, old.old_tail); past = over }
-
-    begins : (b : Bool) → ltb m n ≡ b → AtPoint z (world s L.ghost) c (stepped (s.callers c) (point.Help h (cond b (walk_on m h.old_head.row m) (walk_on m q.row (m - n))))) (point.Help h (cond b (walk_on m h.old_head.row m) (walk_on m q.row (m - n))))
-    begins true _ = let within = B.within in let before = B.old_dummy.2 in let row = ap (λ (p : Place). p.row) old_head_is in on_walk h m h.old_head.row m reading (record {
-      position = old.position;
-      is_decided = old.is_decided;
-      inside = subst (λ (r : ℕ). r < z.rows) (sym row) (L.list.rows.inside B.old_dummy.0 (omega arith));
-      lies = λ at_head. let g = so_many.shown at_head in
-          record { behind = 0; sum = omega arith; inside = omega arith; row = ap G.path (let d = dummy_is at_head in let e : G.head + 0 ≡ B.old_dummy.0 = omega arith in e) ∙ sym row };
-    }) so_many tails rest
-    begins false less = let within = B.within in let row = ap (λ (p : Place). p.row) q_is in on_walk h m q.row (m - n) reading (record {
-      position = old.position;
-      is_decided = old.is_decided;
-      inside = subst (λ (r : ℕ). r < z.rows) (sym row) (L.list.rows.inside old.position (omega arith));
-      lies = λ at_head. let g = so_many.shown at_head in let from = (L.announced.standing h.ann old.position at_head old.is_decided).from in let e = n_is in let d = dummy_is at_head in
-          record { behind = n; sum = (let ge = more in omega arith); inside = omega arith; row = ap G.path (let f : G.head + n ≡ old.position = omega arith in f) ∙ sym row };
-    }) so_many tails rest where
-      more : n ≤ m
-      more = dite (dec_le n m) (λ l. l) (λ no. absurd (differ (sym (lt-ltb m n (omega arith)) ∙ less)))
-
-    walk_begins : AtPoint z (world s L.ghost) c (stepped (s.callers c) (point.Help h (walk h q))) (point.Help h (walk h q))
-    walk_begins = begins (ltb m n) refl
+use Rattle.core_model.specs.Stopper.{linked_rows}
+use Rattle.core_model.proofs.HelpWalk.{differ, same_place_refl, past_old, on_walk, goes_back, span_is, walk_begins}
 
 module _ (z : LaneSizes) (s : State) (L : Lawful z s) (c : ℕ) where
   abbrev G0 : Ghost
@@ -144,25 +43,32 @@ module _ (z : LaneSizes) (s : State) (L : Lawful z s) (c : ℕ) where
   preserves_help_over h q is = over_loaded h q (same_place s.memory.tail q) refl (known z s L c (point.Help h (help.LoadTailOver q)) is)
 
   -- TAIL moves over the chain
-  module _ (h : Help) (q : Place) (reading : Holds z (world s L.ghost) c (reads 4 h)) (old : Holds z (world s L.ghost) c (old_tail_is h.ann q)) (is : s.memory.tail ≡ q) where
+  module _ (h : Help) (q : Place) (reading : Holds z (world s L.ghost) c (reads 4 h)) (old : Holds z (world s L.ghost) c (old_tail_is h.ann q)) (links : Holds z (world s L.ghost) c (has_links h q)) (is : s.memory.tail ≡ q) where
     abbrev a : ℕ
     a = h.ann
 
-    abbrev enqs : ℕ
-    enqs = (s.memory.notice h.ann).counts.enqs
+    -- how many rows are linked
+    abbrev span : ℕ
+    span = L.ghost.span h.ann
 
-    BO : Bound z.first L.ghost.path L.ghost.chained L.ghost.cause (L.ghost.head + L.ghost.rest) L.ghost.tail (s.memory.notice h.ann) h.ann old.position
+    spans : L.ghost.span h.ann ≡ linked_rows h.counts (before_it h q)
+    spans = span_is z s L c h q reading old
+
+    some : 0 < L.ghost.span h.ann
+    some = subst (λ (n : ℕ). 0 < n) (sym spans) links
+
+    BO : Bound z.first L.ghost.path L.ghost.chained L.ghost.cause (L.ghost.head + L.ghost.rest) L.ghost.tail (s.memory.notice h.ann) h.ann old.position (L.ghost.span h.ann)
     BO = L.announced.bound h.ann old.position old.is_decided
 
     tail_is : L.ghost.tail ≡ old.position
     tail_is = let e = ap (λ (p : Place). p.count) (sym L.list.tail.named ∙ (is ∙ L.announced.recorded h.ann old.position q old.is_decided old.old_tail)) in omega arith
 
-    lag : (x : ℕ) × (L.ghost.stage x ≡ decided L.ghost.tail) × (L.ghost.ann ≡ Some x) × (L.ghost.head + L.ghost.rest ≤ L.ghost.tail + (s.memory.notice x).counts.enqs)
-    lag = let t = tail_is in let some = BO.some in let within = BO.within in L.announced.lags (omega arith) (ap L.ghost.chained t ∙ BO.by_chain)
+    lag : (x : ℕ) × (L.ghost.stage x ≡ decided L.ghost.tail) × (L.ghost.ann ≡ Some x) × (L.ghost.head + L.ghost.rest ≤ L.ghost.tail + L.ghost.span x)
+    lag = let t = tail_is in let more = some in let within = BO.within in L.announced.lags (omega arith) (ap L.ghost.chained t ∙ BO.by_chain some)
 
     -- it is the announcement that stands, and its rows are the last ones
     lag_is : lag.0 ≡ h.ann
-    lag_is = sym (L.announced.bound lag.0 L.ghost.tail lag.1).causes ∙ (ap L.ghost.cause tail_is ∙ BO.causes)
+    lag_is = let t = tail_is in let more = some in let within = BO.within in let l = lag.3 in sym ((L.announced.bound lag.0 L.ghost.tail lag.1).causes (omega arith)) ∙ (ap L.ghost.cause tail_is ∙ BO.causes some)
 
     stands : L.ghost.ann ≡ Some h.ann
     stands = lag.2 ∙ ap Some lag_is
@@ -170,14 +76,14 @@ module _ (z : LaneSizes) (s : State) (L : Lawful z s) (c : ℕ) where
     alone : (x : ℕ) → L.ghost.ann ≡ Some x → x ≡ h.ann
     alone x at_head = one_some (sym at_head ∙ stands)
 
-    end : L.ghost.tail + enqs ≡ L.ghost.head + L.ghost.rest
-    end = let t = tail_is in let within = BO.within in let l = subst (λ (y : ℕ). L.ghost.head + L.ghost.rest ≤ L.ghost.tail + (s.memory.notice y).counts.enqs) lag_is lag.3 in omega arith
+    end : L.ghost.tail + span ≡ L.ghost.head + L.ghost.rest
+    end = let t = tail_is in let within = BO.within in let l = subst (λ (y : ℕ). L.ghost.head + L.ghost.rest ≤ L.ghost.tail + L.ghost.span y) lag_is lag.3 in omega arith
 
     abbrev GT : Ghost
-    GT = record L.ghost { tail = L.ghost.tail + enqs }
+    GT = record L.ghost { tail = L.ghost.tail + span }
 
     abbrev memory_over : Memory
-    memory_over = record s.memory { tail = far_behind q h.last h.counts.enqs }
+    memory_over = record s.memory { tail = far_behind q h.last (linked_rows h.counts (before_it h q)) }
 
     abbrev W : World
     W = record { memory = memory_over; history = s.history; ghost = GT }
@@ -194,11 +100,11 @@ module _ (z : LaneSizes) (s : State) (L : Lawful z s) (c : ℕ) where
       link_own = λ _ _ _. refl;
       value_own = λ _ _ _. refl;
       value_path = λ _ _ _. refl;
-      anns = anns_same z (world s L.ghost) W refl refl refl refl refl refl;
+      anns = anns_same z (world s L.ghost) W refl refl refl refl refl refl refl;
       more = ([], sym (append-nil s.history));
     }
 
-    went_over : Lawful z record { memory = record s.memory { tail = far_behind q h.last h.counts.enqs }; history = s.history; callers = s.callers }
+    went_over : Lawful z record { memory = record s.memory { tail = far_behind q h.last (linked_rows h.counts (before_it h q)) }; history = s.history; callers = s.callers }
     went_over = let e = end in let t = tail_is in let from = L.list.tail.after_head in record {
       ghost = GT;
       history = L.history;
@@ -208,8 +114,8 @@ module _ (z : LaneSizes) (s : State) (L : Lawful z s) (c : ℕ) where
         item_rows = L.list.item_rows;
         head = L.list.head;
         tail = record {
-          named = let count = ap (λ (p : Place). p.count) (sym is ∙ L.list.tail.named) in let same = ap (λ (y : Counts). y.enqs) (reading.counts (omega arith)) in
-              λ i. record { row = (sym (reading.last (omega arith)) ∙ (sym BO.ends ∙ ap (λ (y : ℕ). L.ghost.path (y + enqs)) (sym t))) i; count = (let f : q.count + h.counts.enqs ≡ z.first + (L.ghost.tail + enqs) = omega arith in f) i };
+          named = let count = ap (λ (p : Place). p.count) (sym is ∙ L.list.tail.named) in let same = spans in
+              λ i. record { row = (sym (reading.last (omega arith)) ∙ (sym (BO.ends some) ∙ ap (λ (y : ℕ). L.ghost.path (y + span)) (sym t))) i; count = (let f : q.count + linked_rows h.counts (before_it h q) ≡ z.first + (L.ghost.tail + span) = omega arith in f) i };
           after_head = omega arith;
           within = omega arith;
           lags = λ below _. absurd (omega arith);
@@ -217,9 +123,9 @@ module _ (z : LaneSizes) (s : State) (L : Lawful z s) (c : ℕ) where
         counts = L.list.counts;
         links = L.list.links;
       };
-      announced = stages_moved z.first (z.callers * z.callers) G0.stage G0.ann s.memory.notice s.memory.old_tail G0.path G0.path G0.chained G0.chained G0.cause G0.head G0.head (G0.head + G0.rest) (G0.head + G0.rest) G0.shown G0.shown G0.tail (G0.tail + enqs)
+      announced = stages_moved z.first (z.callers * z.callers) G0.stage G0.ann s.memory.notice s.memory.old_tail G0.span G0.path G0.path G0.chained G0.chained G0.cause G0.head G0.head (G0.head + G0.rest) (G0.head + G0.rest) G0.shown G0.shown G0.tail (G0.tail + span)
           (le_refl _) (omega arith) (λ _ _. refl) (λ _ _. refl) (omega arith) (λ _ _. (refl, refl))
-          (λ x i at_head d. inr (subst (λ (y : ℕ). i + (s.memory.notice y).counts.enqs ≤ G0.tail + enqs) (sym (alone x at_head)) (let same = one_position (ap G0.stage (sym (alone x at_head)) ∙ d) old.is_decided in omega arith)))
+          (λ x i at_head d. inr (subst (λ (y : ℕ). i + G0.span y ≤ G0.tail + span) (sym (alone x at_head)) (let same = one_position (ap G0.stage (sym (alone x at_head)) ∙ d) old.is_decided in omega arith)))
           (λ x i d none. absurd (some_none (sym old.old_tail ∙ (ap s.memory.old_tail (sym (alone x (L.announced.unrecorded x i d none).0)) ∙ none))))
           (λ below _. absurd (omega arith)) L.announced;
       told = L.told;
@@ -228,12 +134,12 @@ module _ (z : LaneSizes) (s : State) (L : Lawful z s) (c : ℕ) where
     }
 
   over_moved : (h : Help) (q : Place) (b : Bool) → same_place s.memory.tail q ≡ b → (s.callers c).point ≡ point.Help h (help.MoveTailOver q)
-      → Lawful z (changed s c (write s.memory Tail (cond b (OfTail (far_behind q h.last h.counts.enqs)) (OfTail s.memory.tail))) s.history (stepped (s.callers c) (point.Help h (walk h q))))
+      → Lawful z (changed s c (write s.memory Tail (cond b (OfTail (far_behind q h.last (linked_rows h.counts (before_it h q)))) (OfTail s.memory.tail))) s.history (stepped (s.callers c) (point.Help h (walk h q))))
   over_moved h q true same is = let f = known z s L c (point.Help h (help.MoveTailOver q)) is in let there = same_places s.memory.tail q same in
-      let s' : State = record { memory = record s.memory { tail = far_behind q h.last h.counts.enqs }; history = s.history; callers = s.callers } in
-      let V : Lawful z s' = went_over h q f.call.0 f.here.0 there in let g = known z s' V c (point.Help h (help.MoveTailOver q)) is in
+      let s' : State = record { memory = record s.memory { tail = far_behind q h.last (linked_rows h.counts (before_it h q)) }; history = s.history; callers = s.callers } in
+      let V : Lawful z s' = went_over h q f.call.0 f.here.0 f.here.1.0 there in let g = known z s' V c (point.Help h (help.MoveTailOver q)) is in
       (point_changes z s' V c (point.Help h (walk h q)) (walk_begins z s' V c h q g.call.0 g.here.0
-      (past_old z s' V h.ann g.here.0.position q g.here.0.is_decided g.here.0.old_tail (λ e. let some = (V.announced.bound h.ann g.here.0.position g.here.0.is_decided).some in let enqs = ap (λ (y : Counts). y.enqs) (g.call.0.counts (omega arith)) in let count : q.count + h.counts.enqs ≡ q.count = ap (λ (p : Place). p.count) e in absurd (omega arith))) g.call.1))
+      (past_old z s' V h.ann g.here.0.position q g.here.0.is_decided g.here.0.old_tail (λ e. let some = g.here.1.0 in let count : q.count + linked_rows h.counts (before_it h q) ≡ q.count = ap (λ (p : Place). p.count) e in absurd (omega arith))) g.call.1))
   over_moved h q false same is = let f = known z s L c (point.Help h (help.MoveTailOver q)) is in stutters z s L c (point.Help h (walk h q)) Tail (OfTail s.memory.tail) refl
       (walk_begins z s L c h q f.call.0 f.here.0 (past_old z s L h.ann f.here.0.position q f.here.0.is_decided f.here.0.old_tail (λ e. differ (sym (same_place_refl s.memory.tail q e) ∙ same))) f.call.1)
 
@@ -321,7 +227,7 @@ module _ (z : LaneSizes) (s : State) (L : Lawful z s) (c : ℕ) where
       link_own = λ _ _ _. refl;
       value_own = λ _ _ _. refl;
       value_path = λ _ _ _. refl;
-      anns = anns_moved z (world s L.ghost) V refl (λ _ _. refl) (λ _ _ _ e. e) (λ x none. absurd (some_none (sym none)));
+      anns = anns_moved z (world s L.ghost) V refl refl (λ _ _. refl) (λ _ _ _ e. e) (λ x none. absurd (some_none (sym none)));
       more = ([], sym (append-nil s.history));
     }
 
@@ -338,12 +244,12 @@ module _ (z : LaneSizes) (s : State) (L : Lawful z s) (c : ℕ) where
       installed = λ x none. absurd (some_none (sym none));
       old_head = λ x none. absurd (some_none (sym none));
       waits = λ x waits. absurd (none_waits x waits);
-      bound = λ x i d. let b = A.bound x i d in let within = b.within in record { causes = b.causes; by_chain = b.by_chain; some = b.some; within = omega arith; starts = b.starts; ends = b.ends; joined = b.joined; reached = b.reached; old_dummy = b.old_dummy; covered = b.covered };
+      bound = λ x i d. let b = A.bound x i d in let within = b.within in record { causes = b.causes; by_chain = b.by_chain; within = omega arith; starts = b.starts; ends = b.ends; joined = b.joined; reached = b.reached; old_dummy = b.old_dummy; covered = b.covered; all_excess = b.all_excess };
       standing = λ x i none. absurd (some_none (sym none));
       unknown = A.unknown;
       recorded = A.recorded;
       unrecorded = λ x i d none. absurd (some_none (sym t.known.1 ∙ (ap s.memory.old_tail (sym (one_there x (A.unrecorded x i d none).0)) ∙ none)));
-      lags = λ below by. let x = A.lags (omega arith) by in let same = one_position (ap L.ghost.stage (sym (one_there x.0 x.2)) ∙ x.1) t.is_decided in let over = t.past at_head in let some = (A.bound h.ann t.position t.is_decided).some in absurd (omega arith);
+      lags = λ below by. let x = A.lags (omega arith) by in let same = one_position (ap L.ghost.stage (sym (one_there x.0 x.2)) ∙ x.1) t.is_decided in let over = t.past at_head in let some = ap L.ghost.span (one_there x.0 x.2) in let all = x.3 in absurd (omega arith);
     }
 
     head_moved : Lawful z record { memory = record s.memory { head = Node (far_behind h.old_head r m) }; history = s.history; callers = s.callers }

@@ -25,13 +25,15 @@ use Rattle.core_model.specs.Act.{same_place, location}
 use Rattle.excess_count.specs.Counts.{successes_of}
 use Rattle.core_model.specs.Fits.{BackFits, HelpFits}
 use Rattle.core_model.specs.Coded.{PointFits, CourseFits}
-use Rattle.core_model.specs.Help.{help_of, before_it, walk_on, walk, back_point}
+use Rattle.core_model.specs.Help.{help_of, before_it, walk_on, walk, back_point, walk_from, at_old_tail, has_enough}
 use Rattle.core_model.proofs.Fitting.{no_place}
 use Rattle.core_model.specs.declared.point.HelpPoint.TheVariants as help
 use Rattle.core_model.specs.declared.point.Point.TheVariants as point
 use Rattle.word_rows.specs.declared.location.AnnField.TheVariants as field
 use Rattle.core_model.specs.declared.point.Back.TheVariants as back
 use Rattle.core_model.specs.Help as helping
+use Rattle.core_model.specs.Stopper.{is_stopped, linked_rows}
+use Rattle.core_model.proofs.Decides.{preserves_decide}
 
 pub preserves_help : (z : LaneSizes) (s : State) (L : Lawful z s) (c : ℕ) (h : Help) (p : HelpPoint) → (s.callers c).point ≡ point.Help h p → Lawful z (step_at z s c (point.Help h p))
 preserves_help z s L c h help.LoadOldHead is = preserves_help_old_head z s L c h is
@@ -42,6 +44,7 @@ preserves_help z s L c h help.LoadTail is = preserves_help_tail z s L c h is
 preserves_help z s L c h (help.LoadOldTail p) is = preserves_help_old_tail z s L c h p is
 preserves_help z s L c h (help.LoadLink p) is = preserves_help_link z s L c h p is
 preserves_help z s L c h (help.LinkChain p) is = preserves_link_chain z s L c h p is
+preserves_help z s L c h (help.Decide p) is = preserves_decide z s L c h p is
 preserves_help z s L c h (help.PassTail p n) is = preserves_help_pass z s L c h p n is
 preserves_help z s L c h (help.RecordTail p) is = preserves_record_tail z s L c h p is
 preserves_help z s L c h (help.LoadTailOver q) is = preserves_help_over z s L c h q is
@@ -51,14 +54,6 @@ preserves_help z s L c h (help.MoveHead m r) is = preserves_move_head_ann z s L 
 
 -- and it goes on with what fits
 module _ (s : Shape) where
-  old_tail_read : (p : Place) (x : Option Place) → (a f : ℕ) → PlaceFits (limits_of s) p → MayHold s (AnnWord a field.OldTail) (OfOldTail x) → helping.fits s (helping.after_old_tail p x)
-  old_tail_read p None a f b m = b
-  old_tail_read p (Some q) a f b m = m.1
-
-  tail_recorded : (p : Place) (x : Option Place) (a : ℕ) → PlaceFits (limits_of s) p → MayHold s (AnnWord a field.OldTail) (OfOldTail x) → helping.fits s (helping.after_record p x)
-  tail_recorded p None a b m = b
-  tail_recorded p (Some q) a b m = m.1
-
   help_either : (b : Bool) (p q : HelpPoint) → helping.fits s p → helping.fits s q → helping.fits s (cond b p q)
   help_either true p q a b = a
   help_either false p q a b = b
@@ -75,13 +70,26 @@ module _ (s : Shape) where
 
   walks : (h : Help) (q : Place) → HelpFits s h → PlaceFits (limits_of s) q → helping.fits s (walk h q)
   walks h q a b = let n = before_it h q in let m = successes_of h.counts (before_it h q) in
-      help_either (ltb m n) (walk_on m h.old_head.row m) (walk_on m q.row (m - n)) (walks_on m h.old_head.row m a.old_head.0) (walks_on m q.row (m - n) b.0)
+      help_either (is_stopped h.counts n) (help.MoveHead (suc n) h.last) (walk_from h q n m) a.last
+      (help_either (ltb m n) (walk_on m h.old_head.row m) (walk_on m q.row (m - n)) (walks_on m h.old_head.row m a.old_head.0) (walks_on m q.row (m - n) b.0))
+
+  at_end : (h : Help) (q : Place) → HelpFits s h → PlaceFits (limits_of s) q → helping.fits s (at_old_tail h q)
+  at_end h q a b = help_either (ltb 0 (linked_rows h.counts (before_it h q))) (help.LoadTailOver q) (walk h q) b (walks h q a b)
+
+  old_tail_read : (h : Help) (p : Place) (x : Option Place) → HelpFits s h → PlaceFits (limits_of s) p → MayHold s (AnnWord h.ann field.OldTail) (OfOldTail x) → helping.fits s (helping.after_old_tail h p x)
+  old_tail_read h p None a b m = help_either (has_enough h p) (help.Decide p) (help.LoadLink p) b b
+  old_tail_read h p (Some q) a b m = at_end h q a m.1
+
+  tail_recorded : (h : Help) (p : Place) (x : Option Place) → HelpFits s h → PlaceFits (limits_of s) p → MayHold s (AnnWord h.ann field.OldTail) (OfOldTail x) → helping.fits s (helping.after_record h p x)
+  tail_recorded h p None a b m = at_end h p a b
+  tail_recorded h p (Some q) a b m = at_end h q a m.1
 
   goes_back : (h : Help) (b : Back) → HelpFits s h → BackFits s b → PointFits s (back_point h b)
   goes_back h back.Own a f = a
   goes_back h (back.Enqueue i) a f = (f, tt)
   goes_back h back.Dequeue a f = tt
   goes_back h (back.Batch d) a f = (f, tt)
+  goes_back h (back.Many d) a f = (f, tt)
 
   help_walk : (h : Help) (n r l : ℕ) (x : LinkWord) → HelpFits s h → MayHold s (Link r) (OfLink x) → PointFits s (helping.after_walk h n l x)
   help_walk h n r l Nil a m = goes_back h h.back a a.goes_back
@@ -96,11 +104,12 @@ module _ (s : Shape) where
   help_fits h help.LoadLast (OfChainEnd r) a b m = (record { ann = a.ann; old_head = a.old_head; first = a.first; last = m.1; counts = a.counts; goes_back = a.goes_back }, tt)
   help_fits h help.LoadCounts (OfCounts y) a b m = (record { ann = a.ann; old_head = a.old_head; first = a.first; last = a.last; counts = m.1; goes_back = a.goes_back }, tt)
   help_fits h help.LoadTail (OfTail q) a b m = (a, m.1)
-  help_fits h (help.LoadOldTail p) (OfOldTail x) a b m = (a, old_tail_read p x h.ann 0 b m)
+  help_fits h (help.LoadOldTail p) (OfOldTail x) a b m = (a, old_tail_read h p x a b m)
   help_fits h (help.LoadLink p) (OfLink x) a b m = (a, help_link h p x b m)
   help_fits h (help.LinkChain p) x a b m = (a, tt)
+  help_fits h (help.Decide p) (OfOldTail x) a b m = (a, tail_recorded h p x a b m)
   help_fits h (help.PassTail p r) x a b m = (a, tt)
-  help_fits h (help.RecordTail p) (OfOldTail x) a b m = (a, tail_recorded p x h.ann b m)
+  help_fits h (help.RecordTail p) (OfOldTail x) a b m = (a, tail_recorded h p x a b m)
   help_fits h (help.LoadTailOver q) x a b m = (a, help_either (same_place (tail_in x) q) (help.MoveTailOver q) (walk h q) b (walks h q a b))
   help_fits h (help.MoveTailOver q) x a b m = (a, walks h q a b)
   help_fits h (help.LoadWalk n r l) (OfLink x) a b m = help_walk h n r l x a m

@@ -11,10 +11,10 @@ use Rattle.core_model.specs.declared.point.DequeuePoint.TheVariants as deq
 use Rattle.core_model.specs.declared.point.BatchPoint.TheVariants as batch
 use Rattle.core_model.specs.declared.point.AnswerPoint.TheVariants as answer
 use Rattle.core_model.specs.declared.point.Point.TheVariants as point
+use Rattle.core_model.specs.declared.point.ManyPoint.TheVariants as many
 use Rattle.core_model.specs.declared.point.EnqueuePoint.TheVariants as enq
 use Rattle.core_model.specs.declared.point.HelpPoint.TheVariants as help
 use Rattle.core_model.specs.LaneSizes.{LaneSizes, lane_sizes}
-use Rattle.excess_count.specs.declared.counts.Counts.{Counts}
 use Rattle.excess_count.specs.Counts.{successes_of}
 use Rattle.core_model.specs.State.{State, own_group}
 use Rattle.core_model.specs.Fact.{next_is}
@@ -23,8 +23,10 @@ use Rattle.core_model.specs.Facts.{Holds, AtPoint}
 use Rattle.core_model.specs.Ranges.{IsWord, RowsFit, CountsFit}
 use Rattle.core_model.specs.Lawful.{Lawful}
 use Rattle.core_model.proofs.Groups.{operations_within, length-operations-push}
-use Rattle.core_model.proofs.Stable.{third, world}
+use Rattle.core_model.proofs.Rely.{third, world, fourth}
 use Rattle.core_model.proofs.Preserves.{known}
+use Rattle.core_model.proofs.Counting.{enqs_chain}
+use Rattle.core_model.proofs.HelpWalk.{span_is}
 
 module _ (z : LaneSizes) (s : State) (L : Lawful z s) where
   -- what a caller has in the history is within its allowance
@@ -48,9 +50,11 @@ module _ (z : LaneSizes) (s : State) (L : Lawful z s) where
     fits_at c (point.Enqueue x (enq.MoveTail p n)) f = count_fits c p n f.here.0
     fits_at c (point.Dequeue (deq.PassTail p n)) f = count_fits c p n f.here.0
     fits_at c (point.Dequeue (deq.MoveHead p n v)) f = count_fits c p n f.here.0
+    fits_at c (point.Many d (many.MoveHead r)) f = let seen = fourth f.here in let within = L.list.tail.within in let made = L.list.counts in let all = all_within in omega arith
+    fits_at c (point.Many d (many.PassTail p n)) f = count_fits c p n f.here.1.0
     fits_at c (point.Help h (help.PassTail p n)) f = count_fits c p n f.here.0
     fits_at c (point.Help h (help.MoveTailOver q)) f = let old = f.here.0 in let within = (L.announced.bound h.ann old.position old.is_decided).within in let count = ap (λ (p : Place). p.count) (L.announced.recorded h.ann old.position q old.is_decided old.old_tail) in
-        let enqs = ap (λ (k : Counts). k.enqs) (f.call.0.counts (omega arith)) in let made = L.list.counts in let all = all_within in omega arith
+        let span = span_is z s L c h q f.call.0 f.here.0 in let made = L.list.counts in let all = all_within in omega arith
     fits_at c (point.Help h (help.MoveHead m r)) f = let sum = f.here.1.0.inside in let made = L.list.counts in let all = all_within in omega arith
     fits_at c _ f = tt
 
@@ -59,8 +63,8 @@ module _ (z : LaneSizes) (s : State) (L : Lawful z s) where
 
   -- a batch counts its rows out
   rows_at : z.rows ≤ 2 ^ 31 → (c : ℕ) (t : Point) → AtPoint z (world s L.ghost) c (s.callers c) t → RowsFit t
-  rows_at most c (point.Batch d (batch.StoreValue i r v)) f = let own = (third f.here) in let at = own.row in let inside = (f.here.0.free i own.inside).inside in (omega arith, omega arith)
-  rows_at most c (point.Batch d (batch.StoreChain i r n)) f = let own = (third f.here) in let at = own.row in let behind = own.next in let more = own.inside in let inside = (f.here.0.free (suc i) more).inside in (omega arith, omega arith)
+  rows_at most c (point.Batch d (batch.StoreValue i r v)) f = let own = (third f.here) in let at = own.row in let inside = (f.here.0.free i (enqs_chain d.notice.counts i own.inside)).inside in (omega arith, omega arith)
+  rows_at most c (point.Batch d (batch.StoreChain i r n)) f = let own = (third f.here) in let at = own.row in let behind = own.next in let more = own.inside in let inside = (f.here.0.free (suc i) (enqs_chain d.notice.counts (suc i) more)).inside in (omega arith, omega arith)
   rows_at most c _ f = tt
 
   pub rows_fit : z.rows ≤ 2 ^ 31 → (c : ℕ) → RowsFit (s.callers c).point
@@ -72,9 +76,14 @@ module _ (z : LaneSizes) (s : State) (L : Lawful z s) where
   word_at c (point.Enqueue x (enq.LinkSingle p)) f = f.here.0.inside
   word_at c (point.Dequeue (deq.LoadLink p)) f = f.here.0.inside
   word_at c (point.Dequeue (deq.LoadValue p n)) f = f.here.1.0.inside
-  word_at c (point.Batch d (batch.StoreValue i r v)) f = let own = (third f.here) in subst (λ (y : ℕ). y < z.rows) (sym own.row) (f.here.0.free i own.inside).inside
-  word_at c (point.Batch d (batch.StoreChain i r n)) f = let own = (third f.here) in let next = own.inside in subst (λ (y : ℕ). y < z.rows) (sym own.row) (f.here.0.free i (omega arith)).inside
+  word_at c (point.Batch d (batch.StoreValue i r v)) f = let own = (third f.here) in subst (λ (y : ℕ). y < z.rows) (sym own.row) (f.here.0.free i (enqs_chain d.notice.counts i own.inside)).inside
+  word_at c (point.Batch d (batch.StoreChain i r n)) f = let own = (third f.here) in let next = own.inside in subst (λ (y : ℕ). y < z.rows) (sym own.row) (f.here.0.free i (enqs_chain d.notice.counts i (omega arith))).inside
   word_at c (point.Batch d (batch.StoreField x)) f = f.call.1.0.inside
+  word_at c (point.Many d many.LoadDummy) f = f.here.1.0.inside
+  word_at c (point.Many d (many.LoadLink r l)) f = f.here.1.0.inside
+  word_at c (point.Many d (many.LoadValue r l)) f = f.here.1.0.inside
+  word_at c (point.Many d (many.LoadBehind p)) f = f.here.1.0.inside
+  word_at c (point.Many d (many.StoreField x)) f = f.call.1.0.inside
   word_at c (point.Help h help.LoadOldHead) f = f.call.0.inside
   word_at c (point.Help h help.LoadFirst) f = f.call.0.inside
   word_at c (point.Help h help.LoadLast) f = f.call.0.inside
@@ -82,6 +91,7 @@ module _ (z : LaneSizes) (s : State) (L : Lawful z s) where
   word_at c (point.Help h (help.LoadOldTail p)) f = f.call.0.inside
   word_at c (point.Help h (help.LoadLink p)) f = f.here.0.inside
   word_at c (point.Help h (help.LinkChain p)) f = f.here.0.inside
+  word_at c (point.Help h (help.Decide p)) f = f.call.0.inside
   word_at c (point.Help h (help.RecordTail p)) f = f.call.0.inside
   word_at c (point.Help h (help.LoadWalk m r l)) f = f.here.0.inside
   word_at c (point.Answer (answer.LoadOldTail h)) f = f.here.0.inside

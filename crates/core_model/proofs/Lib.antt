@@ -2,27 +2,37 @@ pub mod Puts
 pub mod Memories
 pub mod Groups
 pub mod Counts
+pub mod Counting
+pub mod Rely
 pub mod Stable
 pub mod Preserves
+pub mod Joins
 pub mod Announces
 pub mod Sames
 pub mod Lookups
 pub mod Fitting
 pub mod Tails
-pub mod DequeueSteps
 pub mod EnqueueLink
 pub mod EnqueueSteps
+pub mod HeadMoves
+pub mod DequeueSteps
 pub mod Opens
-pub mod InRange
 pub mod BatchRows
 pub mod BatchSteps
+pub mod HelpWalk
 pub mod HelpLoads
 pub mod HelpMoves
 pub mod Runs
+pub mod Excess
+pub mod Decisions
 pub mod ChainRows
 pub mod ChainLink
-pub mod HelpSteps
+pub mod Decides
 pub mod AnswerSteps
+pub mod ManyMoves
+pub mod ManySteps
+pub mod HelpSteps
+pub mod InRange
 pub mod Steps
 pub mod Shows
 pub mod Alone
@@ -37,3 +47,4 @@ pub mod Coding
 pub mod CodedSteps
 pub mod CodedStarts
 mod Trace
+mod ManyTrace

@@ -14,7 +14,7 @@ use Rattle.core_model.specs.Help.{help_of}
 use Rattle.core_model.specs.Facts.{Holds}
 use Rattle.core_model.specs.Ghost.{Ghost, positions, joint, at}
 use Rattle.core_model.specs.Lawful.{head_word, Lawful}
-use Rattle.core_model.proofs.Stable.{world}
+use Rattle.core_model.proofs.Rely.{world}
 
 -- the place in a head word
 place_of : HeadWord → Place

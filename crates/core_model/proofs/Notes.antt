@@ -1,5 +1,5 @@
 -- A start and a step note what becomes of a command, and change one word at most.
-use Rattle.std.proofs.Common.{◌≡◌, ◌≢◌, inl, inr, ℕ, zero, suc, ◌<◌, Bool, true, false, cond, List, [], ◌∷◌, ◌++◌, length, refl, sym, subst, arith}
+use Rattle.std.proofs.Common.{◌≡◌, ◌≢◌, inl, inr, ℕ, zero, suc, ◌<◌, Bool, true, false, cond, List, [], ◌∷◌, ◌++◌, length, refl, sym, subst, arith, eqb}
 use Rattle.bq_model.specs.declared.op.Op.{Op}
 use Rattle.bq_model.specs.declared.op.Op.TheVariants.{Enq, Deq}
 use Rattle.bq_model.specs.Own.{mine}
@@ -10,24 +10,28 @@ use Rattle.core_model.specs.declared.point.Point.TheVariants.{Idle}
 use Rattle.core_model.specs.LaneSizes.{LaneSizes}
 use Rattle.core_model.specs.State.{Caller, State, read}
 use Rattle.core_model.specs.Step.{target, stored, reads_on, course, followed, history_with, after, next}
-use Rattle.core_model.specs.Start.{IsCommand, LacksRows, has_rows, first_point, begun, started, refused, start}
+use Rattle.core_model.specs.Start.{IsCommand, LacksRows, has_rows, first_point, begun, started, refused, start, batch_point, draft_of}
 use Rattle.core_model.specs.Noted.{Begins, EndsFull, IsNoted}
 use Rattle.core_model.specs.Lawful.{Lawful}
 use Rattle.core_model.proofs.Puts.{put_here}
 use Rattle.core_model.proofs.Memories.{written_elsewhere}
 use Rattle.core_model.proofs.Ends.{full_exactly}
+use Rattle.excess_count.specs.Excess.{enqueue_count}
 
 module _ (n c : ℕ) (k : Caller) where
   by_reading : (m r l : ℕ) (vs : List ℕ) → IsNoted n c k (reads_on n c k m r l vs)
-  by_reading m r zero vs = inr record { point = refl; ops = refl; mine = refl; taken = refl; made = refl; started_at = refl; ended_at = refl; outcome = refl }
-  by_reading m r (suc l) vs = inl record { ops = refl; mine = refl; taken = refl; made = refl; started_at = refl; ended_at = refl; outcome = refl; answers = refl }
+  by_reading m r zero vs = inr record { point = refl; ops = refl; mine = refl; taken = refl; stopped = refl; made = refl; started_at = refl; ended_at = refl; outcome = refl }
+  by_reading m r (suc l) vs = inl record { ops = refl; mine = refl; taken = refl; stopped = refl; made = refl; started_at = refl; ended_at = refl; outcome = refl; answers = refl }
 
   noted : (x : Course) → IsNoted n c k (followed n c k x)
-  noted (course.GoesOn t) = inl record { ops = refl; mine = refl; taken = refl; made = refl; started_at = refl; ended_at = refl; outcome = refl; answers = refl }
-  noted (course.Ends answer) = inr record { point = refl; ops = refl; mine = refl; taken = refl; made = refl; started_at = refl; ended_at = refl; outcome = refl }
-  noted (course.Fills d i r) = inl record { ops = refl; mine = refl; taken = refl; made = refl; started_at = refl; ended_at = refl; outcome = refl; answers = refl }
+  noted (course.GoesOn t) = inl record { ops = refl; mine = refl; taken = refl; stopped = refl; made = refl; started_at = refl; ended_at = refl; outcome = refl; answers = refl }
+  noted (course.Ends answer) = inr record { point = refl; ops = refl; mine = refl; taken = refl; stopped = refl; made = refl; started_at = refl; ended_at = refl; outcome = refl }
+  noted (course.Fills d i r) = inl record { ops = refl; mine = refl; taken = refl; stopped = refl; made = refl; started_at = refl; ended_at = refl; outcome = refl; answers = refl }
   noted (course.Reads m r l) = by_reading m r l []
   noted (course.ReadsMore m r l v) = by_reading m r l (k.values ++ v ∷ [])
+  noted (course.Walks t) = inl record { ops = refl; mine = refl; taken = refl; stopped = refl; made = refl; started_at = refl; ended_at = refl; outcome = refl; answers = refl }
+  noted (course.WalksMore t v) = inl record { ops = refl; mine = refl; taken = refl; stopped = refl; made = refl; started_at = refl; ended_at = refl; outcome = refl; answers = refl }
+  noted (course.Answers m) = inr record { point = refl; ops = refl; mine = refl; taken = refl; stopped = refl; made = refl; started_at = refl; ended_at = refl; outcome = refl }
 
 pub step_noted : (z : LaneSizes) (s : State) (c : ℕ) → IsNoted (length (next z s c).history) c (s.callers c) ((next z s c).callers c)
 unfolding next
@@ -43,7 +47,10 @@ module _ (z : LaneSizes) (s : State) (L : Lawful z s) (c : ℕ) (ops : List Op) 
   never [] some e = absurd (omega arith)
   never (Enq v ∷ []) some e = cc e
   never (Deq ∷ []) some e = cc e
-  never (op ∷ next ∷ xs) some e = cc e
+  never (op ∷ op' ∷ xs) some e = of_batch (eqb (enqueue_count (op ∷ op' ∷ xs)) 0) e where
+    of_batch : (b : Bool) → batch_point (op ∷ op' ∷ xs) (draft_of z c (s.callers c) (op ∷ op' ∷ xs)) b ≡ Idle → ⊥
+    of_batch true e = cc e
+    of_batch false e = cc e
 
   there : (start z s c ops).callers c ≡ begun z (length s.history) c (s.callers c) ops
   there = put_here s.callers c (begun z (length s.history) c (s.callers c) ops)
@@ -52,8 +59,8 @@ module _ (z : LaneSizes) (s : State) (L : Lawful z s) (c : ℕ) (ops : List Op) 
   full_noted lacks = subst (EndsFull (length s.history) (s.callers c)) (sym there) (by (has_rows z (s.callers c) ops) ((full_exactly z s L c ops is idle).1 lacks)) where
     by : (b : Bool) → (cond b (started z (length s.history) c (s.callers c) ops) (refused z (length s.history) c (s.callers c))).point ≡ Idle
         → EndsFull (length s.history) (s.callers c) (cond b (started z (length s.history) c (s.callers c) ops) (refused z (length s.history) c (s.callers c)))
-    by true e = absurd (never ops is.0 e)
-    by false e = record { point = refl; ops = refl; mine = refl; taken = refl; made = refl; started_at = refl; ended_at = refl; outcome = refl; answers = refl }
+    by true e = absurd (never ops is e)
+    by false e = record { point = refl; ops = refl; mine = refl; taken = refl; stopped = refl; made = refl; started_at = refl; ended_at = refl; outcome = refl; answers = refl }
 
   pub start_noted : ¬ (LacksRows z (mine s.history c) ops) → Begins (length s.history) ops (s.callers c) ((start z s c ops).callers c)
   start_noted enough = subst (Begins (length s.history) ops (s.callers c)) (sym there) (by (has_rows z (s.callers c) ops) (λ e. enough ((full_exactly z s L c ops is idle).0 e))) where

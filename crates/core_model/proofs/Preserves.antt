@@ -1,12 +1,10 @@
 -- A step keeps the lane lawful where the parts are shown of the new world; one that stutters changes its caller's point alone.
-use Rattle.std.proofs.Common.{◌≡◌, ◌≢◌, ◌⊎◌, inl, inr, ℕ, suc, ◌+◌, ◌<◌, ◌≤◌, eqb, Bool, true, false, cond, List, [], ◌∷◌, ◌++◌, length, sym, refl, ap, ◌∙◌, subst, arith, le_refl, length-append, Option, Some, IsSome}
+use Rattle.std.proofs.Common.{◌≡◌, ◌≢◌, ◌⊎◌, inl, inr, ℕ, ◌+◌, ◌<◌, ◌≤◌, eqb, Bool, true, false, cond, List, [], ◌∷◌, ◌++◌, length, sym, refl, ap, ◌∙◌, subst, arith, le_refl, length-append, Option, Some, IsSome}
 use Rattle.std.proofs.lemmas.List.{append-nil}
 use Rattle.std.proofs.lemmas.Bool.{eqb-true, and_parts}
-use Rattle.bq_model.specs.declared.op.Op.{Op}
 use Rattle.bq_model.specs.declared.op.Answer.{Answer}
 use Rattle.bq_model.specs.declared.group.Group.{Group}
-use Rattle.bq_model.specs.Replay.{answers_from}
-use Rattle.bq_model.specs.History.{operations, last_queue}
+use Rattle.bq_model.specs.History.{last_queue}
 use Rattle.bq_model.specs.Own.{mine}
 use Rattle.bq_model.specs.Proper.{IsProper}
 use Rattle.word_rows.specs.declared.place.Place.{Place}
@@ -25,20 +23,20 @@ use Rattle.core_model.specs.LaneSizes.{LaneSizes}
 use Rattle.core_model.specs.Batches.{owner_of}
 use Rattle.core_model.specs.State.{Memory, Caller, Command, command, State, read, write, own_group}
 use Rattle.core_model.specs.Act.{same_place, location, changes, effect}
-use Rattle.core_model.specs.Fact.{is_op}
 use Rattle.core_model.specs.Help.{back_facts}
 use Rattle.core_model.specs.Step.{stepped, stepped_with, ended, act, target, linearizes, group_owner, history_after, course, followed, step_at}
-use Rattle.core_model.specs.Facts.{Holds, Each, AtPoint}
+use Rattle.core_model.specs.Facts.{Each, AtPoint}
 use Rattle.core_model.specs.declared.act.Act.{Act}
 use Rattle.core_model.specs.declared.act.Act.TheVariants.{Load, Store, Exchange}
 use Rattle.core_model.specs.declared.course.Course.{Course}
 use Rattle.core_model.specs.declared.course.Course.TheVariants.{GoesOn}
 use Rattle.core_model.specs.Ghost.{Stage, waiting, Ghost, World}
 use Rattle.core_model.specs.Kept.{Stands, Kept}
-use Rattle.core_model.specs.Lawful.{shown_queue, InOrder, Announced, IsOwn, HelpsOwn, Told, IsTold, Pending, Waits, Unmade, OwnGroups, Allowed, OfCaller, Lawful}
+use Rattle.core_model.specs.Lawful.{shown_queue, InOrder, Announced, IsOwn, HelpsOwn, Told, IsTold, Pending, Waits, Unmade, Allowed, OfCaller, Lawful}
 use Rattle.core_model.proofs.Puts.{put_here, put_else, put_all, put_same}
-use Rattle.core_model.proofs.Groups.{mine-push_own, length-operations-push, enqueues-push, many-push, proper-push}
-use Rattle.core_model.proofs.Stable.{world, anns_same, Drafts, Rely, knows_stable}
+use Rattle.core_model.proofs.Groups.{length-operations-push, enqueues-push, many-push}
+use Rattle.core_model.proofs.Stable.{knows_stable, unused_stable}
+use Rattle.core_model.proofs.Rely.{world, anns_same, Drafts, Rely}
 
 -- the state after a step of caller c
 abbrev pub changed : State → ℕ → Memory → List Group → Caller → State
@@ -87,7 +85,7 @@ rely_history z s g linearized h more = record {
   link_own = λ _ _ _. refl;
   value_own = λ _ _ _. refl;
   value_path = λ _ _ _. refl;
-  anns = anns_same z (world s g) record { memory = s.memory; history = h; ghost = record g { linearized = linearized } } refl refl refl refl refl refl;
+  anns = anns_same z (world s g) record { memory = s.memory; history = h; ghost = record g { linearized = linearized } } refl refl refl refl refl refl refl;
   more = more;
 }
 
@@ -100,13 +98,14 @@ pub drafts_same : (z : LaneSizes) (a b : World) → b.ghost.stage ≡ a.ghost.st
 drafts_same z a b stage notice old d x _ e = (ap (λ (f : ℕ → Stage). f x) stage ∙ e, ap (λ (f : ℕ → Notice). f x) notice, ap (λ (f : ℕ → Option Place). f x) old)
 
 -- what a caller has made stays the same as its command ends
-pub allowed_end : (z : LaneSizes) (c : ℕ) (k : Caller) → Allowed z k.mine k.ops k.taken k.made → Allowed z (k.mine ++ own_group c k ∷ []) [] k.taken k.made
+pub allowed_end : (z : LaneSizes) (c : ℕ) (k : Caller) → Allowed z k.mine k.ops k.taken k.stopped k.made → Allowed z (k.mine ++ own_group c k ∷ []) [] k.taken k.stopped k.made
 allowed_end z c k A = let within = A.within in let rows = A.rows in let made = length-operations-push k.mine (own_group c k) in let taken = enqueues-push k.mine (own_group c k) in let anns = A.anns in let many = many-push k.mine (own_group c k) in record {
   within = omega arith;
   rows = omega arith;
   has_rows = A.has_rows;
   anns = omega arith;
   has_anns = A.has_anns;
+  few_stoppers = A.few_stoppers;
 }
 
 -- what is kept of the last ended command, while the next one goes on
@@ -148,12 +147,14 @@ module _ (z : LaneSizes) (s : State) (L : Lawful z s) (c : ℕ) where
   back_plain k a (back.Enqueue x) f = inl f.0.1
   back_plain k a back.Dequeue f = inl f.0.1
   back_plain k a (back.Batch d) f = inl f.0.1
+  back_plain k a (back.Many d) f = inl f.1.0.1
 
   pub plain_or_own : (k : Caller) (t : Point) → AtPoint z (world s L.ghost) c k t → Plain z L.ghost c ⊎ HelpsOwn t
   plain_or_own k Idle f = inl f.call.0.1
   plain_or_own k (point.Enqueue x p) f = inl f.call.0.1
   plain_or_own k (point.Dequeue p) f = inl f.call.0.1
   plain_or_own k (point.Batch d p) f = inl f.call.0.1
+  plain_or_own k (point.Many d p) f = inl f.call.0.1
   plain_or_own k (point.Help h p) f = back_plain (command k) h.ann h.back f.call.1
   plain_or_own k (point.Answer p) f = inl f.call.0.1
 
@@ -164,7 +165,7 @@ module _ (z : LaneSizes) (s : State) (L : Lawful z s) (c : ℕ) where
   pub told_on : (memory : Memory) (g : Ghost) (t : Point) → Plain z g c ⊎ HelpsOwn t → ((a : ℕ) → IsTold z memory g s.callers a) → (a : ℕ) → IsTold z memory g (put s.callers c (stepped (s.callers c) t)) a
   told_on memory g t (inl plain) old a at_head = told_plain memory g (stepped me t) plain old a at_head
   told_on memory g t (inr own) old a at_head = put_all s.callers c (stepped me t) (λ d k. owner_of z a ≡ d → Told z.home memory.value g.path (g.stage a) (memory.notice a) (owner_of z a) k)
-      (λ at. let p = subst (λ (d : ℕ). Told z.home memory.value g.path (g.stage a) (memory.notice a) (owner_of z a) (s.callers d)) at (old a at_head) in record { describes = p.describes; first = p.first; last = p.last; helps = own; values = p.values })
+      (λ at. let p = subst (λ (d : ℕ). Told z.home memory.value g.path (g.stage a) (memory.notice a) (owner_of z a) (s.callers d)) at (old a at_head) in record { describes = p.describes; some = p.some; first = p.first; last = p.last; helps = own; values = p.values })
       (λ d _ at. subst (λ (d : ℕ). Told z.home memory.value g.path (g.stage a) (memory.notice a) (owner_of z a) (s.callers d)) at (old a at_head)) (owner_of z a) refl
 
   -- of an announcement that waits the point of its owner says nothing
@@ -176,7 +177,6 @@ module _ (z : LaneSizes) (s : State) (L : Lawful z s) (c : ℕ) where
       (λ at. let p = subst (λ (d : ℕ). Pending z memory.link memory.value g.spot g.chain (g.linearized (owner_of z a)) (memory.notice a) (owner_of z a) (s.callers d)) at (old a waits) in record {
         known = p.known;
         not_yet = p.not_yet;
-        some = p.some;
         starts = p.starts;
         ends = p.ends;
         homes = p.homes;
@@ -266,6 +266,15 @@ module _ (z : LaneSizes) (s : State) (L : Lawful z s) (c : ℕ) where
     }) (λ d _. L.callers d);
   }
 
+  -- a load, or an exchange that finds something else, after which the caller has read these values
+  pub stutters_with : (t u : Point) (vs : List ℕ) (g : Course) → changes (act t) (read s.memory (target t)) ≡ false → linearizes t (read s.memory (target t)) ≡ false
+      → course t (read s.memory (target t)) ≡ g → ((n : ℕ) → followed n c (s.callers c) g ≡ stepped_with (s.callers c) u vs)
+      → Plain z L.ghost c → AtPoint z (world s L.ghost) c (stepped_with (s.callers c) u vs) u → Lawful z (step_at z s c t)
+  stutters_with t u vs g lost adds goes with_them plain knows = let x : Content = read s.memory (target t) in let group : Group = own_group (group_owner z c t) (s.callers (group_owner z c t)) in
+      subst (λ (y : Memory × List Group × Course). Lawful z record { memory = y.0; history = y.1; callers = put s.callers c (followed (length y.1) c me y.2) })
+      (λ i. (sym (leaves s.memory (act t) x refl lost) i, sym (ap (λ (b : Bool). history_after b s.history group) adds) i, sym goes i))
+      (subst (λ (k : Caller). Lawful z record { memory = s.memory; history = s.history; callers = put s.callers c k }) (sym (with_them (length s.history))) (point_changes_with u vs plain knows))
+
   -- the running command, which has taken effect, ends
   pub finishes : (xs : List Answer) → L.ghost.linearized c ≡ true → Plain z L.ghost c
       → (st : Stands s.history (own_group c (s.callers c)) xs) → (s.callers c).started_at ≤ length st.before
@@ -280,7 +289,6 @@ module _ (z : LaneSizes) (s : State) (L : Lawful z s) (c : ℕ) where
     pending = waits_plain s.memory G k plain waits_there (λ a waits. let p = L.pending a waits in record {
       known = p.known;
       not_yet = put_else L.ghost.linearized c false (owner_of z a) (plain a (waits_there a waits)) ∙ p.not_yet;
-      some = p.some;
       starts = p.starts;
       ends = p.ends;
       homes = p.homes;
@@ -299,7 +307,7 @@ module _ (z : LaneSizes) (s : State) (L : Lawful z s) (c : ℕ) where
           ∙ (sym (append-nil _) ∙ ap (λ (b : Bool). (me.mine ++ own ∷ []) ++ cond b (own_group c k ∷ []) []) (sym (put_here L.ghost.linearized c false))));
       allowed = allowed_end z c me (L.callers c).allowed;
       knows = record {
-        unused = λ i from below at. let o = (L.callers c).knows.unused i from below at in record { at_home = o.at_home; inside = o.inside; is_item = o.is_item; unlinked = o.unlinked; nil = o.nil };
+        unused = unused_stable z (λ _. ⊥) here W rely c me.taken me.stopped (λ _ x. absurd x) (L.callers c).knows.unused;
         started = (L.callers c).knows.started;
         last = kept';
         at_point = record { call = ((put_here L.ghost.linearized c false, plain), tt); here = ((refl, λ _. ended_somewhere), tt) };
@@ -328,49 +336,3 @@ module _ (z : LaneSizes) (s : State) (L : Lawful z s) (c : ℕ) where
 
     kept' : Kept s.history c k
     kept' = record { none = λ no. absurd (no refl); done = λ _. record { earlier = me.mine; ops = me.ops; last = refl; stands = st; timely = before_end } }
-
-  -- the command of c takes effect, whoever makes the step, and its group joins the history
-  module _ (off : L.ghost.linearized c ≡ false) where
-    own_mine : mine s.history c ≡ (s.callers c).mine
-    own_mine = (L.callers c).own_groups ∙ (ap (λ (b : Bool). me.mine ++ cond b (own ∷ []) []) off ∙ append-nil me.mine)
-
-    pub joins_proper : c < z.callers → (s.callers c).ops ≢ [] → IsProper z.callers (s.history ++ own_group c (s.callers c) ∷ [])
-    joins_proper known some = proper-push z.callers s.history own known some (ap length (sym own_mine)) L.history
-
-    pub joins_mine : mine (s.history ++ own_group c (s.callers c) ∷ []) c ≡ (s.callers c).mine ++ own_group c (s.callers c) ∷ []
-    joins_mine = mine-push_own s.history own ∙ ap (λ (gs : List Group). gs ++ own ∷ []) own_mine
-
-  -- the same of a single operation
-  module _ (op : Op) (off : L.ghost.linearized c ≡ false) (runs : Holds z (world s L.ghost) c (is_op (s.callers c).ops op)) where
-    pub linearizes_proper : IsProper z.callers (s.history ++ own_group c (s.callers c) ∷ [])
-    linearizes_proper = joins_proper off runs.1 (λ none. some (sym runs.0 ∙ none)) where
-      some : op ∷ [] ≢ []
-      some e = cc e
-
-    pub linearizes_operations : length (operations (s.history ++ own_group c (s.callers c) ∷ [])) ≡ suc (length (operations s.history))
-    linearizes_operations = length-operations-push s.history own ∙ (ap (λ (ops : List Op). length (operations s.history) + length ops) runs.0 ∙ (let one : length (operations s.history) + 1 ≡ suc (length (operations s.history)) = omega arith in one))
-
-    pub linearizes_mine : mine (s.history ++ own_group c (s.callers c) ∷ []) c ≡ (s.callers c).mine ++ own_group c (s.callers c) ∷ []
-    linearizes_mine = joins_mine off
-
-    -- where the command ends with that step
-    module _ (xs : List Answer) (right : xs ≡ answers_from (last_queue s.history) (op ∷ [])) where
-      abbrev last : Caller
-      last = ended (length (s.history ++ own_group c (s.callers c) ∷ [])) c (s.callers c) xs
-
-      pub linearizes_groups : OwnGroups c (s.history ++ own_group c (s.callers c) ∷ []) last (L.ghost.linearized c)
-      linearizes_groups = linearizes_mine ∙ (sym (append-nil _) ∙ ap (λ (b : Bool). (me.mine ++ own ∷ []) ++ cond b (own_group c last ∷ []) []) (sym off))
-
-      pub linearizes_kept : Kept (s.history ++ own_group c (s.callers c) ∷ []) c last
-      linearizes_kept = record {
-        none = λ no. absurd (no refl);
-        done = λ _. record {
-          earlier = me.mine;
-          ops = me.ops;
-          last = refl;
-          timely = before_end;
-          stands = record { before = s.history; behind = []; splits = sym (append-nil (s.history ++ own ∷ [])); right = right ∙ ap (answers_from (last_queue s.history)) (sym runs.0) };
-        };
-      } where
-        before_end : (end : ℕ) → Some (length (s.history ++ own ∷ [])) ≡ Some end → (me.started_at ≤ length s.history) × (length s.history < end)
-        before_end end e = let all : length (s.history ++ own ∷ []) ≡ end = cc e in let total = length-append s.history (own ∷ []) in ((L.callers c).knows.started, omega arith)

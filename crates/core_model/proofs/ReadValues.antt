@@ -22,11 +22,14 @@ use Rattle.core_model.specs.State.{State, head_in, link_in, old_tail_in}
 use Rattle.core_model.specs.Act.{is_node}
 use Rattle.core_model.specs.Dequeue as dequeue
 use Rattle.core_model.specs.Answer as answering
+use Rattle.core_model.specs.Many as dequeues
+use Rattle.core_model.specs.declared.point.Draft.{Draft}
+use Rattle.core_model.specs.declared.point.ManyPoint.TheVariants as many
 use Rattle.core_model.specs.Step.{course}
 use Rattle.core_model.specs.Facts.{AtPoint}
 use Rattle.core_model.specs.Lawful.{Lawful}
 use Rattle.core_model.proofs.Runs.{length-run}
-use Rattle.core_model.proofs.Stable.{world}
+use Rattle.core_model.proofs.Rely.{world, third}
 use Rattle.core_model.proofs.Preserves.{known}
 
 -- a batch that reads a value has fewer of them than operations
@@ -35,6 +38,12 @@ values_fit z s L c m r l is = by (known z s L c (point.Answer (answer.LoadValue 
   by : AtPoint z (world s L.ghost) c (s.callers c) (point.Answer (answer.LoadValue m r l)) → length (s.callers c).values < length (s.callers c).ops
   by f = let rd = f.here.0 in let R = rd.linearized in let n = ap length rd.values ∙ length-run (λ j. s.memory.value (L.ghost.path j)) (suc R.dummy) rd.read in
       let counts = ap (λ (k : Counts). k.deqs) R.counts in let most = count_by-le-length is_dequeue (s.callers c).ops in let total = rd.left in omega arith
+
+-- and so has one of dequeues alone that walks
+pub walked_fit : (z : LaneSizes) (s : State) → Lawful z s → (c : ℕ) (d : Draft) (r l : ℕ) → (s.callers c).point ≡ point.Many d (many.LoadValue r l) → length (s.callers c).values < length (s.callers c).ops
+walked_fit z s L c d r l is = by (known z s L c (point.Many d (many.LoadValue r l)) is) where
+  by : AtPoint z (world s L.ghost) c (s.callers c) (point.Many d (many.LoadValue r l)) → length (s.callers c).values < length (s.callers c).ops
+  by f = let sum = third f.here in let counts = ap (λ (k : Counts). k.deqs) f.call.1.0.describes.counts in let most = count_by-le-length is_dequeue (s.callers c).ops in omega arith
 
 -- one value more is read at this point alone
 module _ (m r l v : ℕ) where
@@ -61,6 +70,13 @@ module _ (m r l v : ℕ) where
   never_old_tail h None e = cc e
   never_old_tail h (Some q) e = cc e
 
+  never_dummy : (d : Draft) (x : LinkWord) → Here (dequeues.after_dummy d x) → ⊥
+  unfolding Here
+  never_dummy d Nil e = cc e
+  never_dummy d (Single n) e = cc e
+  never_dummy d (Chain n) e = cc e
+  never_dummy d Shut e = cc e
+
   never_ends : (b : Bool) (x : Course) (t : Point) → (Here x → ⊥) → Here (cond b x (GoesOn t)) → ⊥
   never_ends b x t ends = never_either b x (GoesOn t) ends (never_on t)
 
@@ -70,6 +86,9 @@ module _ (m r l v : ℕ) where
   reads_a_value (point.Dequeue (deq.LoadLink p)) x e = absurd (never_linked p (link_in x) e)
   reads_a_value (point.Dequeue (deq.MoveHead p n y)) x e = absurd (never_ends (is_node (head_in x) p) _ _ (λ e. cc e) e)
   reads_a_value (point.Batch d (batch.StoreValue i q y)) x e = absurd (never_either _ (GoesOn _) (Fills d (suc i) (suc q)) (λ e. cc e) (λ e. cc e) e)
+  reads_a_value (point.Many d many.LoadDummy) x e = absurd (never_dummy d (link_in x) e)
+  reads_a_value (point.Many d (many.LoadValue q y)) x e = absurd (cc e)
+  reads_a_value (point.Many d (many.MoveHead q)) x e = absurd (never_ends (is_node (head_in x) d.notice.old_head) _ _ (λ e. cc e) e)
   reads_a_value (point.Help h help.LoadOldHead) x e = absurd (never_on _ e)
   reads_a_value (point.Answer (answer.LoadOldTail h)) x e = absurd (never_old_tail h (old_tail_in x) e)
   reads_a_value (point.Answer (answer.LoadValue i q n)) x e = λ k. point.Answer (answer.LoadValue (sym sames.0 k) (sym sames.1 k) (sym sames.2 k)) where

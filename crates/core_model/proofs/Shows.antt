@@ -1,5 +1,5 @@
 -- The words of a lawful lane show the last queue of its history.
-use Rattle.std.proofs.Common.{◌≡◌, ℕ, zero, suc, ◌+◌, ◌-◌, ◌<◌, ◌≤◌, Bool, true, false, not, cond, ◌||◌, sym, refl, ap, ◌∙◌, subst, arith, eq-eqb, ne_eqb, Option, Some, None}
+use Rattle.std.proofs.Common.{◌≡◌, ℕ, zero, suc, ◌+◌, ◌-◌, ◌<◌, ◌≤◌, Bool, true, false, not, cond, ◌||◌, sym, refl, ap, ◌∙◌, subst, arith, eq-eqb, ne_eqb, Option, Some, None, eqb, ltb}
 use mathlib.Core.Logic.{dite}
 use native.Mathlib.Decide.{dec_le}
 use Rattle.bq_model.specs.History.{last_queue}
@@ -14,8 +14,11 @@ use Rattle.core_model.specs.State.{State}
 use Rattle.core_model.specs.Act.{is_unknown}
 use Rattle.core_model.specs.Ghost.{Stage, unused, waiting, decided, Ghost, joint, at}
 use Rattle.core_model.specs.Lawful.{head_word, Lawful}
-use Rattle.core_model.specs.Shown.{linked_row, Along, follow, row_behind, is_chain_of, is_decided, decided_behind, shown_head, Shows}
-use Rattle.core_model.proofs.Stable.{some_none}
+use Rattle.core_model.specs.Shown.{linked_row, Along, follow, row_behind, is_chain_of, is_decided, decided_behind, shown_head, Shows, new_dummy}
+use Rattle.core_model.proofs.Rely.{some_none}
+use Rattle.core_model.proofs.Counting.{chain_pos}
+use Rattle.core_model.specs.Stopper.{is_stopped, stoppers, linked_rows}
+use Rattle.std.proofs.lemmas.Bool.{and_parts, eqb-true, ltb-true}
 
 module _ (z : LaneSizes) (s : State) (L : Lawful z s) where
   abbrev G : Ghost
@@ -68,7 +71,7 @@ module _ (z : LaneSizes) (s : State) (L : Lawful z s) where
     by (Single r) is = refl
     by Shut is = refl
     by (Chain r) is = ne_eqb r (s.memory.notice a).first (λ same. let P = L.pending a waits in let next = tail_link r is in let below = next.0 in let from = L.list.tail.after_head in
-        some_none (sym (L.list.rows.spots (suc G.tail) (omega arith) (omega arith)) ∙ (ap G.spot (next.1 ∙ (same ∙ sym P.starts)) ∙ P.unlinked 0 P.some)))
+        some_none (sym (L.list.rows.spots (suc G.tail) (omega arith) (omega arith)) ∙ (ap G.spot (next.1 ∙ (same ∙ sym P.starts)) ∙ P.unlinked 0 (chain_pos (s.memory.notice a).counts))))
 
   -- a decided announcement that stands is decided by the words, at the position where it was
   module _ (a i : ℕ) (at_head : G.ann ≡ Some a) (d : G.stage a ≡ decided i) where
@@ -77,24 +80,36 @@ module _ (z : LaneSizes) (s : State) (L : Lawful z s) where
 
     decided_so : (o : Option Place) → s.memory.old_tail a ≡ o → ((not (is_unknown o) || is_chain_of (s.memory.link s.memory.tail.row) (s.memory.notice a).first) ≡ true) × ((decided_behind o s.memory.tail).count ≡ z.first + i)
     decided_so (Some q) known = (refl, ap (λ (p : Place). p.count) (L.announced.recorded a i q d known))
-    decided_so None unknown = let b = L.announced.bound a i d in let some = b.some in let within = b.within in let reached = b.reached in let open_tail = (L.announced.unrecorded a i d unknown).1 in let here : G.tail ≡ i = omega arith in (
-      ap (λ (l : LinkWord). is_chain_of l (s.memory.notice a).first) (ap s.memory.link (tail_row ∙ ap G.path here) ∙ (L.list.rows.joined i (let from = L.list.tail.after_head in omega arith) (omega arith) ∙ (λ k. joint (b.by_chain k) (b.starts k))))
+    decided_so None unknown = let b = L.announced.bound a i d in let some = (L.announced.unrecorded a i d unknown).2 in let within = b.within in let reached = b.reached in let open_tail = (L.announced.unrecorded a i d unknown).1 in let here : G.tail ≡ i = omega arith in (
+      ap (λ (l : LinkWord). is_chain_of l (s.memory.notice a).first) (ap s.memory.link (tail_row ∙ ap G.path here) ∙ (L.list.rows.joined i (let from = L.list.tail.after_head in omega arith) (omega arith) ∙ (λ k. joint (b.by_chain some k) (b.starts some k))))
           ∙ eq-eqb (s.memory.notice a).first (s.memory.notice a).first refl,
       ap (λ (p : Place). p.count) L.list.tail.named ∙ ap (λ (y : ℕ). z.first + y) here,
     )
 
-    gets_shown : successes_of (s.memory.notice a).counts ((decided_behind (s.memory.old_tail a) s.memory.tail).count - (s.memory.notice a).old_head.count) ≡ G.shown
-    gets_shown = let count = (decided_so (s.memory.old_tail a) refl).1 in let head = ap (λ (p : Place). p.count) old_head_is in
-        ap (successes_of (s.memory.notice a).counts) (let e : (decided_behind (s.memory.old_tail a) s.memory.tail).count - (s.memory.notice a).old_head.count ≡ i - G.head = omega arith in e) ∙ sym (L.announced.standing a i at_head d).shows
+    -- so many values were queued before the batch
+    queued_before : (decided_behind (s.memory.old_tail a) s.memory.tail).count - (s.memory.notice a).old_head.count ≡ i - G.head
+    queued_before = let count = (decided_so (s.memory.old_tail a) refl).1 in let head = ap (λ (p : Place). p.count) old_head_is in omega arith
+
+    -- the new dummy is the shown head
+    new_dummy_is : (b : Bool) → is_stopped (s.memory.notice a).counts (i - G.head) ≡ b
+        → cond b (s.memory.notice a).last (row_behind s.memory (s.memory.notice a).old_head.row (successes_of (s.memory.notice a).counts (i - G.head))) ≡ G.path (G.head + G.shown)
+    new_dummy_is true stopped = let B = L.announced.bound a i d in let parts = and_parts (eqb (s.memory.notice a).counts.enqs 0) (ltb (i - G.head) (s.memory.notice a).counts.deqs) stopped in
+        let none = eqb-true (s.memory.notice a).counts.enqs 0 parts.0 in let few = ltb-true (i - G.head) (s.memory.notice a).counts.deqs parts.1 in let all = B.all_excess none in
+        let same : B.old_dummy.0 ≡ G.head = (let e = ap (λ (p : Place). p.count) (sym B.old_dummy.1 ∙ old_head_is) in omega arith) in
+        let one : stoppers (s.memory.notice a).counts (i - G.head) ≡ 1 = ap (λ (b : Bool). cond b 1 0) stopped in
+        let span = B.old_dummy.3 ∙ ap (λ (h : ℕ). linked_rows (s.memory.notice a).counts (i - h)) same in let from = (L.announced.standing a i at_head d).from in let shows = (L.announced.standing a i at_head d).shows in
+        sym (B.ends (omega arith)) ∙ ap G.path (omega arith)
+    new_dummy_is false open_end = let none : stoppers (s.memory.notice a).counts (i - G.head) ≡ 0 = ap (λ (b : Bool). cond b 1 0) open_end in let shows = (L.announced.standing a i at_head d).shows in
+        (λ k. row_behind s.memory (ap (λ (p : Place). p.row) old_head_is k) ((let e : successes_of (s.memory.notice a).counts (i - G.head) ≡ G.shown = omega arith in e) k)) ∙ row_on_list G.head G.shown (omega arith) (let fits = L.list.head.fits in omega arith)
 
   shown_head_is : shown_head s.memory s.memory.head ≡ G.path (G.head + G.shown)
   shown_head_is = ap (shown_head s.memory) L.list.head.named ∙ by G.ann refl where
     standing : (a : ℕ) → G.ann ≡ Some a → (x : Stage) → G.stage a ≡ x → shown_head s.memory (Ann a (z.first + G.head)) ≡ G.path (G.head + G.shown)
     standing a at_head unused u = absurd (L.announced.installed a at_head u)
-    standing a at_head waiting w = ap (λ (b : Bool). cond b (row_behind s.memory (s.memory.notice a).old_head.row (successes_of (s.memory.notice a).counts ((decided_behind (s.memory.old_tail a) s.memory.tail).count - (s.memory.notice a).old_head.count))) (s.memory.notice a).old_head.row) (waits_undecided a w)
+    standing a at_head waiting w = ap (λ (b : Bool). cond b (new_dummy s.memory (s.memory.notice a) ((decided_behind (s.memory.old_tail a) s.memory.tail).count - (s.memory.notice a).old_head.count)) (s.memory.notice a).old_head.row) (waits_undecided a w)
         ∙ (ap (λ (p : Place). p.row) (L.announced.old_head a at_head) ∙ ap G.path (let none = (L.announced.waits a w).1 in let e : G.head ≡ G.head + G.shown = omega arith in e))
-    standing a at_head (decided i) d = ap (λ (b : Bool). cond b (row_behind s.memory (s.memory.notice a).old_head.row (successes_of (s.memory.notice a).counts ((decided_behind (s.memory.old_tail a) s.memory.tail).count - (s.memory.notice a).old_head.count))) (s.memory.notice a).old_head.row) (decided_so a i at_head d (s.memory.old_tail a) refl).0
-        ∙ ((λ k. row_behind s.memory (ap (λ (p : Place). p.row) (old_head_is a i at_head d) k) (gets_shown a i at_head d k)) ∙ row_on_list G.head G.shown (omega arith) (let fits = L.list.head.fits in omega arith))
+    standing a at_head (decided i) d = ap (λ (b : Bool). cond b (new_dummy s.memory (s.memory.notice a) ((decided_behind (s.memory.old_tail a) s.memory.tail).count - (s.memory.notice a).old_head.count)) (s.memory.notice a).old_head.row) (decided_so a i at_head d (s.memory.old_tail a) refl).0
+        ∙ (ap (new_dummy s.memory (s.memory.notice a)) (queued_before a i at_head d) ∙ new_dummy_is a i at_head d (is_stopped (s.memory.notice a).counts (i - G.head)) refl)
 
     by : (x : Option ℕ) → G.ann ≡ x → shown_head s.memory (head_word z.first G.path G.head x) ≡ G.path (G.head + G.shown)
     by None none = ap G.path (let bare = L.list.head.none none in let e : G.head ≡ G.head + G.shown = omega arith in e)

@@ -1,5 +1,5 @@
 -- What callers know stays true while the lane goes on.
-use Rattle.std.proofs.Common.{◌≡◌, ◌⊎◌, ℕ, suc, ◌+◌, ◌-◌, ◌<◌, ◌≤◌, true, false, List, [], ◌∷◌, ◌++◌, length, take, sym, ap, ◌∙◌, subst, arith, append_assoc, length-append, inl, ⊎_elim, Option, Some, None}
+use Rattle.std.proofs.Common.{◌≡◌, ◌⊎◌, ℕ, suc, ◌+◌, ◌-◌, ◌<◌, ◌≤◌, true, false, List, [], ◌∷◌, ◌++◌, length, take, sym, ap, ◌∙◌, subst, arith, append_assoc, length-append, ⊎_elim, Option, Some, refl}
 use Rattle.bq_model.specs.declared.op.Answer.{Answer}
 use Rattle.bq_model.specs.declared.group.Group.{Group}
 use Rattle.bq_model.specs.History.{last_queue}
@@ -7,118 +7,31 @@ use Rattle.excess_count.specs.Got.{values_from}
 use Rattle.word_rows.specs.declared.place.Place.{Place}
 use Rattle.core_model.specs.declared.point.Notice.{Notice}
 use Rattle.core_model.specs.Functions.{run}
-use Rattle.core_model.specs.LaneSizes.{LaneSizes, item}
+use Rattle.core_model.specs.LaneSizes.{LaneSizes, item, stopper}
 use Rattle.excess_count.specs.Counts.{successes_of}
 use Rattle.core_model.specs.Batches.{owner_of}
-use Rattle.core_model.specs.State.{Caller, State}
+use Rattle.core_model.specs.State.{Caller}
 use Rattle.core_model.specs.declared.point.Help.{Help}
 use Rattle.core_model.specs.declared.point.HelpPoint.{HelpPoint}
 use Rattle.core_model.specs.declared.point.HelpPoint.TheVariants as help
 use Rattle.core_model.specs.declared.point.Point.{Point}
 use Rattle.core_model.specs.Help as helping
-use Rattle.core_model.specs.Fact.{Fact, owns, holds_item, unused_rows, linked, head_seen, tail_seen, tail_past, next_is, by_single, next_value, linearized_is, is_op, answered, since, kept, rests, drafts, fills, enqueues, goes_on, written, head_written, reads, stands_at, before_end, is_old_tail, old_tail_is, tail_over, gets_so_many, walks, takes_effect, has_read, is_reading}
-use Rattle.core_model.specs.Facts.{AllAgree, stored_before, Linearized, Owns, Holds, Each, call_knows, knows, AtPoint, Knows}
-use Rattle.core_model.specs.Ghost.{Stage, unused, waiting, decided, Ghost, World, positions, Unlinked, LinkAt, On, Installed}
+use Rattle.core_model.specs.Fact.{Fact, owns, holds_item, unused_rows, linked, head_seen, tail_seen, tail_past, next_is, by_single, next_value, linearized_is, is_op, answered, since, kept, rests, drafts, fills, enqueues, goes_on, written, head_written, reads, stands_at, before_end, is_old_tail, old_tail_is, tail_over, gets_so_many, walks, takes_effect, has_read, is_reading, only_dequeues, has_walked, is_walking, to_walk, too_few, enough, has_links}
+use Rattle.core_model.specs.Facts.{AllAgree, stored_before, Linearized, Owns, Holds, Each, call_knows, knows, AtPoint, Knows, NotToCome, HasWalked, IsWalking}
+use Rattle.core_model.specs.Ghost.{unused, waiting, decided, World, positions, On, Installed}
 use Rattle.core_model.specs.Kept.{Stands, numbered, Kept}
 use Rattle.core_model.proofs.Puts.{run_same}
-
--- the third and the fourth of the facts in a list
-abbrev pub third : {A B C D : Type 0} → A × (B × (C × D)) → C
-third f = f.1.1.0
-
-abbrev pub fourth : {A B C D E : Type 0} → A × (B × (C × (D × E))) → D
-fourth f = f.1.1.1.0
-
--- a state with what its words don't say
-abbrev pub world : State → Ghost → World
-world s g = record { memory = s.memory; history = s.history; ghost = g }
-
--- the stages differ
-pub unused_waits : {s : Stage} → s ≡ unused → s ≡ waiting → ⊥
-unused_waits e f = never (sym e ∙ f) where
-  never : unused ≡ waiting → ⊥
-  never e = cc e
-
-pub unused_decides : {s : Stage} {i : ℕ} → s ≡ unused → s ≡ decided i → ⊥
-unused_decides {i = i} e f = never (sym e ∙ f) where
-  never : unused ≡ decided i → ⊥
-  never e = cc e
-
-pub waits_decides : {s : Stage} {i : ℕ} → s ≡ waiting → s ≡ decided i → ⊥
-waits_decides {i = i} e f = never (sym e ∙ f) where
-  never : waiting ≡ decided i → ⊥
-  never e = cc e
-
-pub one_position : {s : Stage} {i j : ℕ} → s ≡ decided i → s ≡ decided j → i ≡ j
-one_position {i = i} {j = j} e f = same (sym e ∙ f) where
-  same : decided i ≡ decided j → i ≡ j
-  same e = cc e
-
-pub one_some : {A : Type 0} {i j : A} → Some i ≡ Some j → i ≡ j
-one_some e = cc e
-
-pub some_none : {A : Type 0} {i : A} → Some i ≡ None → ⊥
-some_none e = cc e
-
--- Announcements go on, from waiting to decided; one is decided as rows are linked and the command of its owner takes effect.
-pub record AnnRely (z : LaneSizes) (a b : World) : Type 0 where
-  pub installed : (x : ℕ) → Installed a x → Installed b x
-  pub waited : (x : ℕ) → b.ghost.stage x ≡ waiting → Installed a x → a.ghost.stage x ≡ waiting
-  pub done : (x i : ℕ) → a.ghost.stage x ≡ decided i → b.ghost.stage x ≡ decided i
-  pub decides : (x i : ℕ) → Installed a x → b.ghost.stage x ≡ decided i
-      → (a.ghost.stage x ≡ decided i) ⊎ ((positions a.ghost < positions b.ghost) × (a.ghost.linearized (owner_of z x) ≡ false) × (b.ghost.linearized (owner_of z x) ≡ true))
-  pub notice_same : (x : ℕ) → Installed a x → b.memory.notice x ≡ a.memory.notice x
-  pub old_same : (x : ℕ) (q : Place) → Installed a x → a.memory.old_tail x ≡ Some q → b.memory.old_tail x ≡ Some q
-  -- what stands in HEAD stood there, or is installed by the step
-  pub stood : (x : ℕ) → b.ghost.ann ≡ Some x
-      → ((a.ghost.ann ≡ Some x) × (b.ghost.head ≡ a.ghost.head) × ((i : ℕ) → a.ghost.stage x ≡ decided i → b.ghost.shown ≡ a.ghost.shown))
-      ⊎ ((a.ghost.stage x ≡ unused) × (b.ghost.stage x ≡ waiting))
-
--- the stages are the same, and what stands stood
-pub anns_moved : (z : LaneSizes) (a b : World) → b.ghost.stage ≡ a.ghost.stage → ((x : ℕ) → Installed a x → b.memory.notice x ≡ a.memory.notice x)
-    → ((x : ℕ) (q : Place) → Installed a x → a.memory.old_tail x ≡ Some q → b.memory.old_tail x ≡ Some q)
-    → ((x : ℕ) → b.ghost.ann ≡ Some x → (a.ghost.ann ≡ Some x) × (b.ghost.head ≡ a.ghost.head) × (b.ghost.shown ≡ a.ghost.shown)) → AnnRely z a b
-anns_moved z a b stage notice old stood = record {
-  installed = λ x i e. i (sym (ap (λ (f : ℕ → Stage). f x) stage) ∙ e);
-  waited = λ x e _. sym (ap (λ (f : ℕ → Stage). f x) stage) ∙ e;
-  done = λ x i e. ap (λ (f : ℕ → Stage). f x) stage ∙ e;
-  decides = λ x i _ e. inl (sym (ap (λ (f : ℕ → Stage). f x) stage) ∙ e);
-  notice_same = notice;
-  old_same = old;
-  stood = λ x e. let s = stood x e in inl (s.0, s.1, λ _ _. s.2);
-}
-
-pub anns_same : (z : LaneSizes) (a b : World) → b.ghost.stage ≡ a.ghost.stage → b.memory.notice ≡ a.memory.notice → b.memory.old_tail ≡ a.memory.old_tail
-    → b.ghost.ann ≡ a.ghost.ann → b.ghost.head ≡ a.ghost.head → b.ghost.shown ≡ a.ghost.shown → AnnRely z a b
-anns_same z a b stage notice old ann head shown = anns_moved z a b stage (λ x _. ap (λ (f : ℕ → Notice). f x) notice) (λ x q _ e. ap (λ (f : ℕ → Option Place). f x) old ∙ e) (λ x e. (sym ann ∙ e, head, shown))
-
--- what caller d wrote of an own announcement that it didn't install
-abbrev pub Drafts : LaneSizes → World → World → ℕ → Type 0
-Drafts z a b d = (x : ℕ) → owner_of z x ≡ d → a.ghost.stage x ≡ unused
-    → (b.ghost.stage x ≡ unused) × (b.memory.notice x ≡ a.memory.notice x) × (b.memory.old_tail x ≡ a.memory.old_tail x)
-
--- The world a goes on as b, by a step that touches only those unlinked rows for which Touch holds.
-pub record Rely (z : LaneSizes) (Touch : ℕ → Type 0) (a b : World) : Type 0 where
-  pub longer : positions a.ghost ≤ positions b.ghost
-  pub heads : a.ghost.head ≤ b.ghost.head
-  pub tails : a.ghost.tail ≤ b.ghost.tail
-  pub path_same : (i : ℕ) → i < positions a.ghost → b.ghost.path i ≡ a.ghost.path i
-  pub chained_same : (i : ℕ) → suc i < positions a.ghost → b.ghost.chained i ≡ a.ghost.chained i
-  pub spot_own : (r : ℕ) → Unlinked a r → ¬ (Touch r) → Unlinked b r
-  pub on_same : (i r : ℕ) → On a i r → (b.ghost.spot r ≡ Some i) × LinkAt b i r × (b.memory.value r ≡ a.memory.value r)
-  pub link_own : (r : ℕ) → Unlinked a r → ¬ (Touch r) → b.memory.link r ≡ a.memory.link r
-  pub value_own : (r : ℕ) → Unlinked a r → ¬ (Touch r) → b.memory.value r ≡ a.memory.value r
-  pub value_path : (i : ℕ) → a.ghost.head ≤ i → i < positions a.ghost → b.memory.value (a.ghost.path i) ≡ a.memory.value (a.ghost.path i)
-  pub anns : AnnRely z a b
-  pub more : (new : List Group) × (b.history ≡ a.history ++ new)
+use Rattle.core_model.proofs.Rely.{Rely, Drafts, unused_waits, unused_decides}
+use Rattle.core_model.proofs.Counting.{enqs_chain}
+use Rattle.core_model.specs.Stopper.{chain_rows}
 
 -- facts that name nothing of the caller's own: a caller that helps another knows them alone
 abbrev pub Shared : Fact → Type 0
-Shared (owns n r) = ⊥
+Shared (owns n m r) = ⊥
 Shared (holds_item x) = ⊥
-Shared (unused_rows n) = ⊥
+Shared (unused_rows n m) = ⊥
 Shared (linearized_is d) = ⊥
-Shared (fills n s ops i j) = ⊥
+Shared (fills n m s ops i j) = ⊥
 Shared (written d f) = ⊥
 Shared (head_written d) = ⊥
 Shared (takes_effect x n own) = ⊥
@@ -136,12 +49,13 @@ helping_shared h help.LoadLast = tt
 helping_shared h help.LoadCounts = tt
 helping_shared h help.LoadTail = tt
 helping_shared h (help.LoadOldTail p) = (tt, (tt, (tt, tt)))
-helping_shared h (help.LoadLink p) = (tt, (tt, (tt, (tt, tt))))
-helping_shared h (help.LinkChain p) = (tt, (tt, (tt, (tt, tt))))
+helping_shared h (help.LoadLink p) = (tt, (tt, (tt, (tt, (tt, tt)))))
+helping_shared h (help.LinkChain p) = (tt, (tt, (tt, (tt, (tt, tt)))))
+helping_shared h (help.Decide p) = (tt, (tt, (tt, (tt, tt))))
 helping_shared h (help.PassTail p n) = (tt, (tt, tt))
 helping_shared h (help.RecordTail p) = (tt, tt)
-helping_shared h (help.LoadTailOver q) = (tt, tt)
-helping_shared h (help.MoveTailOver q) = (tt, tt)
+helping_shared h (help.LoadTailOver q) = (tt, (tt, tt))
+helping_shared h (help.MoveTailOver q) = (tt, (tt, tt))
 helping_shared h (help.LoadWalk m r l) = (tt, (tt, (tt, tt)))
 helping_shared h (help.MoveHead m r) = (tt, (tt, (tt, tt)))
 
@@ -163,7 +77,14 @@ module _ (z : LaneSizes) (Touch : ℕ → Type 0) (a b : World) (g : Rely z Touc
   kept_stable k x = record { none = x.none; done = λ is. let y = x.done is in record { earlier = y.earlier; ops = y.ops; last = y.last; stands = stands_still (numbered c y.earlier y.ops) k.answers y.stands; timely = y.timely } }
 
   pub owns_stable : (r : ℕ) → ¬ (Touch r) → Owns z a c r → Owns z b c r
-  owns_stable r off o = record { at_home = o.at_home; inside = o.inside; is_item = o.is_item; unlinked = g.spot_own r o.unlinked off; nil = g.link_own r o.unlinked off ∙ o.nil }
+  owns_stable r off o = record { at_home = o.at_home; inside = o.inside; unlinked = g.spot_own r o.unlinked off; nil = g.link_own r o.unlinked off ∙ o.nil }
+
+  -- the rows that the caller has yet to take stay as they are
+  pub unused_stable : (n m : ℕ) → ((r : ℕ) → Touch r → NotToCome z c n m r) → Holds z a c (unused_rows n m) → Holds z b c (unused_rows n m)
+  unused_stable n m off x = (
+    (λ i from below known. owns_stable (item z c i) (λ t. (off (item z c i) t).items i from below refl) (x.0 i from below known)),
+    λ i from below known. owns_stable (stopper z c i) (λ t. (off (stopper z c i) t).stoppers i from refl) (x.1 i from below known),
+  )
 
   on_stable : (i r : ℕ) → On a i r → On b i r
   on_stable i r on = let inside = on.inside in let longer = g.longer in let y = g.on_same i r on in record { inside = omega arith; spot = y.0; row = g.path_same i on.inside ∙ on.row; link = y.1 }
@@ -177,6 +98,36 @@ module _ (z : LaneSizes) (Touch : ℕ → Type 0) (a b : World) (g : Rely z Touc
           ∙ (ap b.memory.value (g.path_same (suc a.ghost.head) (omega arith)) ∙ (g.value_path (suc a.ghost.head) (omega arith) (omega arith) ∙ y.1)),
     ),
   )
+
+  -- values that were read along the list from the dummy on, as long as that is the dummy
+  read_stable : (p : Place) (vs : List ℕ) → (p.count ≤ z.first + a.ghost.head) → (e : p.count ≡ z.first + b.ghost.head) → length vs ≤ a.ghost.rest
+      → vs ≡ run (λ j. a.memory.value (a.ghost.path j)) (suc a.ghost.head) (length vs) → vs ≡ run (λ j. b.memory.value (b.ghost.path j)) (suc b.ghost.head) (length vs)
+  read_stable p vs seen e le was = let heads = g.heads in let same : b.ghost.head ≡ a.ghost.head = omega arith in
+      was ∙ (run_same (λ j. a.memory.value (a.ghost.path j)) (λ j. b.memory.value (b.ghost.path j)) (suc a.ghost.head) (length vs)
+      (λ j from below. sym (ap b.memory.value (g.path_same j (omega arith)) ∙ g.value_path j (omega arith) (omega arith)))
+      ∙ ap (λ (h : ℕ). run (λ j. b.memory.value (b.ghost.path j)) (suc h) (length vs)) (sym same))
+
+  has_walked_stable : (p : Place) (vs : List ℕ) (r : ℕ) → HasWalked z a p vs r → HasWalked z b p vs r
+  has_walked_stable p vs r x = let longer = g.longer in let heads = g.heads in let seen = x.seen in record {
+    inside = x.inside;
+    seen = omega arith;
+    there = λ e. let same : b.ghost.head ≡ a.ghost.head = omega arith in let y = x.there (omega arith) in let le = y.0 in (
+      omega arith,
+      ap (λ (h : ℕ). b.ghost.path (h + length vs)) same ∙ (g.path_same (a.ghost.head + length vs) (omega arith) ∙ y.1),
+      read_stable p vs x.seen e y.0 y.2,
+    );
+  }
+
+  is_walking_stable : (p : Place) (vs : List ℕ) (r : ℕ) → IsWalking z a p vs r → IsWalking z b p vs r
+  is_walking_stable p vs r x = let longer = g.longer in let heads = g.heads in let seen = x.seen in record {
+    inside = x.inside;
+    seen = omega arith;
+    there = λ e. let same : b.ghost.head ≡ a.ghost.head = omega arith in let y = x.there (omega arith) in let le = y.0 in (
+      omega arith,
+      ap (λ (h : ℕ). b.ghost.path (suc (h + length vs))) same ∙ (g.path_same (suc (a.ghost.head + length vs)) (omega arith) ∙ y.1),
+      read_stable p vs x.seen e (omega arith) y.2,
+    );
+  }
 
   still : (x : ℕ) → b.ghost.ann ≡ Some x → Installed a x → (a.ghost.ann ≡ Some x) × (b.ghost.head ≡ a.ghost.head) × ((i : ℕ) → a.ghost.stage x ≡ decided i → b.ghost.shown ≡ a.ghost.shown)
   still x e there = ⊎_elim (λ (old : (a.ghost.ann ≡ Some x) × (b.ghost.head ≡ a.ghost.head) × ((i : ℕ) → a.ghost.stage x ≡ decided i → b.ghost.shown ≡ a.ghost.shown)). old)
@@ -208,6 +159,7 @@ module _ (z : LaneSizes) (Touch : ℕ → Type 0) (a b : World) (g : Rely z Touc
     dummy = R.dummy;
     old_head = ap (λ (s : Notice). s.old_head) notice ∙ (R.old_head ∙ ap (λ (r : ℕ). record { row = r; count = z.first + R.dummy }) (sym (g.path_same R.dummy (let l = first_on.inside in omega arith))));
     before = R.before;
+    no_shorter = R.no_shorter;
     length_queue = R.length_queue;
     values = ap (λ (s : Notice). take (successes_of s.counts (i - R.dummy)) (values_from (last_queue R.pre) own.ops)) notice
         ∙ (R.values ∙ (values_stable x i n own R (successes_of (a.memory.notice x).counts (i - R.dummy)) (omega arith) ∙ ap (λ (s : Notice). run (λ j. b.memory.value (b.ghost.path j)) (suc R.dummy) (successes_of s.counts (i - R.dummy))) (sym notice)));
@@ -232,6 +184,13 @@ module _ (z : LaneSizes) (Touch : ℕ → Type 0) (a b : World) (g : Rely z Touc
   shared_stable (drafts k d) _ x = x
   shared_stable (enqueues ops s i r v) _ x = x
   shared_stable (goes_on s i r n) _ x = x
+  shared_stable (only_dequeues d) _ x = x
+  shared_stable (has_walked p vs r) _ x = has_walked_stable p vs r x
+  shared_stable (is_walking p vs r) _ x = is_walking_stable p vs r x
+  shared_stable (to_walk d vs l) _ x = x
+  shared_stable (too_few h p) _ x = x
+  shared_stable (enough h p) _ x = x
+  shared_stable (has_links h q) _ x = x
   shared_stable (reads n h) _ x = let notice = g.anns.notice_same h.ann x.installed in record {
     installed = g.anns.installed h.ann x.installed;
     inside = x.inside;
@@ -245,8 +204,9 @@ module _ (z : LaneSizes) (Touch : ℕ → Type 0) (a b : World) (g : Rely z Touc
     g.anns.installed y x.0,
     λ i e. let o = x.1 i e in let inside = o.0 in let longer = g.longer in (
       omega arith,
-      λ j d. ⊎_elim (λ (was : a.ghost.stage y ≡ decided j). let l = o.1 j was in omega arith)
-          (λ (new : (positions a.ghost < positions b.ghost) × (a.ghost.linearized (owner_of z y) ≡ false) × (b.ghost.linearized (owner_of z y) ≡ true)). let l = new.0 in omega arith) (g.anns.decides y j x.0 d),
+      λ j d some. ⊎_elim (λ (was : a.ghost.stage y ≡ decided j). let same = g.anns.span_same y j was in let l = o.1 j was (omega arith) in omega arith)
+          (λ (new : ((positions a.ghost < positions b.ghost) ⊎ (b.ghost.span y ≡ 0)) × (a.ghost.linearized (owner_of z y) ≡ false) × (b.ghost.linearized (owner_of z y) ≡ true)).
+          ⊎_elim (λ (l : positions a.ghost < positions b.ghost). let k = l in omega arith) (λ (none : b.ghost.span y ≡ 0). let k = none in omega arith) new.0) (g.anns.decides y j x.0 d),
     ),
   )
   shared_stable (is_old_tail y p) _ x = (
@@ -255,7 +215,7 @@ module _ (z : LaneSizes) (Touch : ℕ → Type 0) (a b : World) (g : Rely z Touc
       position = o.position;
       is_decided = g.anns.done y o.position o.is_decided;
       inside = omega arith;
-      place = o.place ∙ ap (λ (r : ℕ). record { row = r; count = z.first + o.position }) (sym (g.path_same o.position o.inside));
+      place = λ some. o.place (subst (λ (n : ℕ). 0 < n) (g.anns.span_same y o.position o.is_decided) some) ∙ ap (λ (r : ℕ). record { row = r; count = z.first + o.position }) (sym (g.path_same o.position o.inside));
     },
   )
   shared_stable (old_tail_is y q) _ x = record {
@@ -267,7 +227,7 @@ module _ (z : LaneSizes) (Touch : ℕ → Type 0) (a b : World) (g : Rely z Touc
     position = x.position;
     is_decided = g.anns.done y x.position x.is_decided;
     known = (x.known.0, g.anns.old_same y x.known.0 inst x.known.1);
-    past = λ e. let s = still y e inst in let o = x.past s.0 in let tails = g.tails in let enqs = ap (λ (s : Notice). s.counts.enqs) (g.anns.notice_same y inst) in omega arith;
+    past = λ e. let s = still y e inst in let o = x.past s.0 in let tails = g.tails in let span = g.anns.span_same y x.position x.is_decided in omega arith;
   }
   shared_stable (gets_so_many h m) _ x = let inst = is_installed h.ann x.position x.is_decided in record {
     position = x.position;
@@ -311,11 +271,11 @@ module _ (z : LaneSizes) (Touch : ℕ → Type 0) (a b : World) (g : Rely z Touc
         next_row = g.path_same (suc (R.dummy + x.read)) (omega arith) ∙ x.next_row;
         values = x.values ∙ values_stable x.ann x.position n own R x.read (omega arith);
       }
-  shared_stable (owns n r) bad x = absurd bad
+  shared_stable (owns n m r) bad x = absurd bad
   shared_stable (holds_item i) bad x = absurd bad
-  shared_stable (unused_rows n) bad x = absurd bad
+  shared_stable (unused_rows n m) bad x = absurd bad
   shared_stable (linearized_is d) bad x = absurd bad
-  shared_stable (fills n s ops i j) bad x = absurd bad
+  shared_stable (fills n m s ops i j) bad x = absurd bad
   shared_stable (written d f) bad x = absurd bad
   shared_stable (head_written d) bad x = absurd bad
   shared_stable (takes_effect y n own) bad x = absurd bad
@@ -333,20 +293,24 @@ module _ (z : LaneSizes) (Touch : ℕ → Type 0) (a b : World) (g : Rely z Touc
     -- an own announcement is not decided by a step that leaves the caller's `linearized`
     was : (x i : ℕ) → Installed a x → owner_of z x ≡ c → b.ghost.stage x ≡ decided i → a.ghost.stage x ≡ decided i
     was x i inst own e = ⊎_elim (λ (old : a.ghost.stage x ≡ decided i). old)
-        (λ (new : (positions a.ghost < positions b.ghost) × (a.ghost.linearized (owner_of z x) ≡ false) × (b.ghost.linearized (owner_of z x) ≡ true)).
+        (λ (new : ((positions a.ghost < positions b.ghost) ⊎ (b.ghost.span x ≡ 0)) × (a.ghost.linearized (owner_of z x) ≡ false) × (b.ghost.linearized (owner_of z x) ≡ true)).
         absurd (differ (sym (subst (λ (o : ℕ). b.ghost.linearized o ≡ true) own new.2) ∙ (linearized ∙ subst (λ (o : ℕ). a.ghost.linearized o ≡ false) own new.1)))) (g.anns.decides x i inst e) where
           differ : true ≡ false → ⊥
           differ e = cc e
 
     pub stable : (f : Fact) → Holds z a c f → Holds z b c f
-    stable (owns n r) x = (owns_stable r (apart r x.0.at_home) x.0, x.1)
+    stable (owns n m r) x = (owns_stable r (apart r x.0.at_home) x.0, x.1, x.2)
     stable (holds_item i) x = (owns_stable i.row (apart i.row x.0.at_home) x.0, g.value_own i.row x.0.unlinked (apart i.row x.0.at_home) ∙ x.1)
-    stable (unused_rows n) x = λ i from below known. let o = x i from below known in owns_stable (item z c i) (apart (item z c i) o.at_home) o
+    stable (unused_rows n m) x = (
+      (λ i from below known. let o = x.0 i from below known in owns_stable (item z c i) (apart (item z c i) o.at_home) o),
+      λ i from below known. let o = x.1 i from below known in owns_stable (stopper z c i) (apart (stopper z c i) o.at_home) o,
+    )
     stable (linearized_is d) x = (linearized ∙ x.0, λ y e own. x.1 y (stood_there y e own) own)
-    stable (fills n s ops i j) x = let off = λ (l : ℕ) (below : l < s.counts.enqs). apart (s.first + l) (x.free l below).at_home in record {
-      free = λ l below. let o = x.free l below in record { at_home = o.at_home; inside = o.inside; unlinked = g.spot_own (s.first + l) o.unlinked (off l below); is_item = o.is_item };
+    stable (fills n m s ops i j) x = let off = λ (l : ℕ) (below : l < chain_rows s.counts). apart (s.first + l) (x.free l below).at_home in let one = λ (l : ℕ) (below : l < s.counts.enqs). enqs_chain s.counts l below in record {
+      free = λ l below. let o = x.free l below in record { at_home = o.at_home; inside = o.inside; unlinked = g.spot_own (s.first + l) o.unlinked (off l below) };
+      items = x.items;
       taken = x.taken;
-      values = λ l below more. g.value_own (s.first + l) (x.free l below).unlinked (off l below) ∙ x.values l below more;
+      values = λ l below more. g.value_own (s.first + l) (x.free l (one l below)).unlinked (off l (one l below)) ∙ x.values l below more;
       joined = λ l below more. g.link_own (s.first + l) (x.free l below).unlinked (off l below) ∙ x.joined l below more;
       nil = λ l below more. g.link_own (s.first + l) (x.free l below).unlinked (off l below) ∙ x.nil l below more;
     }
@@ -377,6 +341,13 @@ module _ (z : LaneSizes) (Touch : ℕ → Type 0) (a b : World) (g : Rely z Touc
     stable (drafts k d) x = x
     stable (enqueues ops s i r v) x = x
     stable (goes_on s i r n) x = x
+    stable (only_dequeues d) x = x
+    stable (has_walked p vs r) x = shared_stable (has_walked p vs r) tt x
+    stable (is_walking p vs r) x = shared_stable (is_walking p vs r) tt x
+    stable (to_walk d vs l) x = x
+    stable (too_few h p) x = x
+    stable (enough h p) x = x
+    stable (has_links h q) x = x
     stable (reads n h) x = shared_stable (reads n h) tt x
     stable (stands_at y p) x = shared_stable (stands_at y p) tt x
     stable (before_end y p) x = shared_stable (before_end y p) tt x
@@ -397,4 +368,4 @@ module _ (z : LaneSizes) (Touch : ℕ → Type 0) (a b : World) (g : Rely z Touc
 
     -- what a caller knows goes on to be so
     pub knows_stable : (k : Caller) → Knows z a c k → Knows z b c k
-    knows_stable k f = record { unused = stable (unused_rows k.taken) f.unused; started = stable (since k.started_at) f.started; last = stable (kept k) f.last; at_point = at_point_stable k k.point f.at_point }
+    knows_stable k f = record { unused = stable (unused_rows k.taken k.stopped) f.unused; started = stable (since k.started_at) f.started; last = stable (kept k) f.last; at_point = at_point_stable k k.point f.at_point }

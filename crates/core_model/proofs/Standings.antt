@@ -1,5 +1,5 @@
 -- What a lawful lane says of the announcement that stands in HEAD, and of the step that links its chain.
-use Rattle.std.proofs.Common.{subst, arith, refl, ◌+◌, ◌<◌, ◌≤◌, ◌≡◌, ℕ, cond, List, [], ◌∷◌, ◌++◌, sym, ap, ◌∙◌, Option, Some, None}
+use Rattle.std.proofs.Common.{subst, arith, refl, ◌+◌, ◌<◌, ◌≤◌, ◌≡◌, ℕ, cond, List, [], ◌∷◌, ◌++◌, sym, ap, ◌∙◌, Option, Some, None, ◌-◌}
 use Rattle.bq_model.specs.declared.group.Group.{Group}
 use Rattle.word_rows.specs.declared.place.Place.{Place}
 use Rattle.word_rows.specs.declared.head_word.HeadWord.TheVariants.{Ann}
@@ -12,13 +12,14 @@ use Rattle.core_model.specs.declared.point.HelpPoint.TheVariants as help
 use Rattle.core_model.specs.LaneSizes.{LaneSizes}
 use Rattle.core_model.specs.Batches.{owner_of}
 use Rattle.core_model.specs.State.{State, command, read, own_group}
-use Rattle.core_model.specs.Act.{is_nil}
+use Rattle.core_model.specs.Act.{is_nil, is_unknown}
 use Rattle.core_model.specs.Step.{target, added_by, next}
 use Rattle.core_model.specs.Ghost.{Stage, unused, waiting, decided, joint}
 use Rattle.core_model.specs.Saying.{Says}
 use Rattle.core_model.specs.Facts.{Describes}
 use Rattle.core_model.specs.Lawful.{head_word, Lawful}
 use Rattle.core_model.proofs.Alone.{history_added}
+use Rattle.core_model.specs.Stopper.{linked_rows}
 
 module _ (z : LaneSizes) (s : State) (L : Lawful z s) where
   -- the announcement that HEAD names is the one that stands
@@ -45,15 +46,16 @@ module _ (z : LaneSizes) (s : State) (L : Lawful z s) where
     counted None e = absurd (cc e)
     counted (Some b) e = cc e
 
-    by : (q : Place) → s.memory.old_tail a ≡ Some q → (x : Stage) → L.ghost.stage a ≡ x → (n ≤ q.count) × (s.memory.link q.row ≡ Chain (s.memory.notice a).first)
+    by : (q : Place) → s.memory.old_tail a ≡ Some q → (x : Stage) → L.ghost.stage a ≡ x → (n ≤ q.count) × (0 < linked_rows (s.memory.notice a).counts (q.count - n) → s.memory.link q.row ≡ Chain (s.memory.notice a).first)
     by q known unused e = absurd (L.announced.installed a (stands_there a n is) e)
     by q known waiting e = absurd (none (sym known ∙ L.announced.unknown a e)) where
       none : Some q ≡ None → ⊥
       none e = cc e
-    by q known (decided i) e = let at = stands_there a n is in let B = L.announced.bound a i e in let from = (L.announced.standing a i at e).from in let some = B.some in let within = B.within in let place = L.announced.recorded a i q e known in
-        let count = ap (λ (p : Place). p.count) place in let head = counted L.ghost.ann (sym is ∙ L.list.head.named) in (
+    by q known (decided i) e = let at = stands_there a n is in let B = L.announced.bound a i e in let from = (L.announced.standing a i at e).from in let within = B.within in let place = L.announced.recorded a i q e known in
+        let count = ap (λ (p : Place). p.count) place in let head = counted L.ghost.ann (sym is ∙ L.list.head.named) in let old = ap (λ (p : Place). p.count) (sym B.old_dummy.1 ∙ L.announced.old_head a at) in (
           (omega arith),
-          ap (λ (p : Place). s.memory.link p.row) place ∙ (L.list.rows.joined i (omega arith) (omega arith) ∙ (λ k. joint (B.by_chain k) (B.starts k))),
+          λ links. let queued : q.count - n ≡ i - B.old_dummy.0 = omega arith in let some = subst (λ (x : ℕ). 0 < x) (ap (linked_rows (s.memory.notice a).counts) queued ∙ sym B.old_dummy.3) links in
+              ap (λ (p : Place). s.memory.link p.row) place ∙ (L.list.rows.joined i (omega arith) (omega arith) ∙ (λ k. joint (B.by_chain some k) (B.starts some k))),
         )
 
 -- the step of caller c that links the chain of an announcement adds the group of its owner
@@ -62,3 +64,10 @@ pub puts_owners_group : (z : LaneSizes) (s : State) (c : ℕ) (h : Help) (p : Pl
 puts_owners_group z s c h p point nil = history_added z s c ∙ ap (λ (gs : List Group). s.history ++ gs)
     (ap (λ (t : Point). added_by z s.callers c t (read s.memory (target t))) point
     ∙ ap (λ (l : LinkWord). cond (is_nil l) (own_group (owner_of z h.ann) (s.callers (owner_of z h.ann)) ∷ []) []) nil)
+
+-- and so does the step that decides it without a link
+pub decides_owners_group : (z : LaneSizes) (s : State) (c : ℕ) (h : Help) (p : Place) → (s.callers c).point ≡ point.Help h (help.Decide p) → s.memory.old_tail h.ann ≡ None
+    → (next z s c).history ≡ s.history ++ own_group (owner_of z h.ann) (s.callers (owner_of z h.ann)) ∷ []
+decides_owners_group z s c h p point none = history_added z s c ∙ ap (λ (gs : List Group). s.history ++ gs)
+    (ap (λ (t : Point). added_by z s.callers c t (read s.memory (target t))) point
+    ∙ ap (λ (o : Option Place). cond (is_unknown o) (own_group (owner_of z h.ann) (s.callers (owner_of z h.ann)) ∷ []) []) none)

@@ -12,9 +12,11 @@ use Rattle.core_model.specs.Fact.{next_is, by_single}
 use Rattle.core_model.specs.Facts.{Holds}
 use Rattle.core_model.specs.Ghost.{decided, Ghost, World}
 use Rattle.core_model.specs.Lawful.{Lawful}
-use Rattle.core_model.proofs.Stable.{world, anns_same, Rely}
+use Rattle.core_model.proofs.Rely.{world, anns_same, Rely}
 use Rattle.core_model.proofs.Preserves.{caller_stable, changed, same_places, drafts_same}
 use Rattle.core_model.proofs.Announces.{stages_moved}
+use mathlib.Core.Logic.{dite}
+use native.Mathlib.Decide.{dec_le}
 
 module _ (z : LaneSizes) (s : State) (L : Lawful z s) (c : ℕ) where
   abbrev G : Ghost
@@ -40,10 +42,10 @@ module _ (z : LaneSizes) (s : State) (L : Lawful z s) (c : ℕ) where
       counts = L.list.counts;
       links = L.list.links;
     };
-    announced = stages_moved z.first (z.callers * z.callers) G.stage G.ann s.memory.notice s.memory.old_tail G.path G.path G.chained G.chained G.cause G.head G.head (G.head + G.rest) (G.head + G.rest) G.shown G.shown G.tail (suc G.tail)
+    announced = stages_moved z.first (z.callers * z.callers) G.stage G.ann s.memory.notice s.memory.old_tail G.span G.path G.path G.chained G.chained G.cause G.head G.head (G.head + G.rest) (G.head + G.rest) G.shown G.shown G.tail (suc G.tail)
         (le_refl _) (omega arith) (λ _ _. refl) (λ _ _. refl) (omega arith) (λ _ _. (refl, refl))
-        (λ a i e f. ⊎_elim (λ (here : G.tail ≡ i). absurd (not_here a i f here)) (λ (past : i + (s.memory.notice a).counts.enqs ≤ G.tail). inr (omega arith)) (L.announced.standing a i e f).tails)
-        (λ a i f none. let reached = (L.announced.bound a i f).reached in let before = (L.announced.unrecorded a i f none).1 in absurd (not_here a i f (omega arith)))
+        (λ a i e f. ⊎_elim (λ (here : G.tail ≡ i). let none = not_here a i f here in inr (omega arith)) (λ (past : i + G.span a ≤ G.tail). inr (omega arith)) (L.announced.standing a i e f).tails)
+        (λ a i f none. let reached = (L.announced.bound a i f).reached in let before = (L.announced.unrecorded a i f none).1 in let some = (L.announced.unrecorded a i f none).2 in let unlinked = not_here a i f (omega arith) in absurd (omega arith))
         (λ below _. let inside = (next.there G.tail count).0 in let last = L.list.tail.lags (omega arith) (single G.tail count).1 in absurd (omega arith)) L.announced;
     told = L.told;
     pending = L.pending;
@@ -52,9 +54,9 @@ module _ (z : LaneSizes) (s : State) (L : Lawful z s) (c : ℕ) where
     count : p.count ≡ z.first + G.tail
     count = ap (λ (q : Place). q.count) (sym is ∙ L.list.tail.named)
 
-    -- no announcement is decided at a Single link
-    not_here : (a i : ℕ) → G.stage a ≡ decided i → G.tail ≡ i → ⊥
-    not_here a i f here = differ (sym (L.announced.bound a i f).by_chain ∙ (ap G.chained (sym here) ∙ (single G.tail count).1)) where
+    -- no rows of an announcement are linked by a Single link
+    not_here : (a i : ℕ) → G.stage a ≡ decided i → G.tail ≡ i → G.span a ≤ 0
+    not_here a i f here = dite (dec_le (G.span a) 0) (λ none. none) (λ some. absurd (differ (sym ((L.announced.bound a i f).by_chain (omega arith)) ∙ (ap G.chained (sym here) ∙ (single G.tail count).1)))) where
       differ : true ≡ false → ⊥
       differ e = cc e
 
@@ -76,7 +78,7 @@ module _ (z : LaneSizes) (s : State) (L : Lawful z s) (c : ℕ) where
       link_own = λ _ _ _. refl;
       value_own = λ _ _ _. refl;
       value_path = λ _ _ _. refl;
-      anns = anns_same z (world s G) W refl refl refl refl refl refl;
+      anns = anns_same z (world s G) W refl refl refl refl refl refl refl;
       more = ([], sym (append-nil s.history));
     }
 

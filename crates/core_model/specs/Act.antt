@@ -1,6 +1,9 @@
 -- What a step does with its word: it loads it, stores into it, or exchanges it.
-use Rattle.std.specs.Prelude.{ℕ, ◌+◌, ◌==◌, ◌&&◌, Bool, true, false, cond, Option, Some, None}
+use Rattle.std.specs.Prelude.{ℕ, ◌+◌, ◌==◌, ◌&&◌, Bool, true, false, not, cond, Option, Some, None}
+use Rattle.excess_count.specs.declared.counts.Counts.{Counts}
 use Rattle.word_rows.specs.declared.place.Place.{Place}
+use Rattle.word_rows.specs.declared.marks.Marks.{Marks}
+use Rattle.word_rows.specs.declared.batch_words.BatchNumber.{BatchNumber}
 use Rattle.word_rows.specs.declared.head_word.HeadWord.{HeadWord}
 use Rattle.word_rows.specs.declared.head_word.HeadWord.TheVariants.{Node, Ann}
 use Rattle.word_rows.specs.declared.link_word.LinkWord.{LinkWord}
@@ -8,7 +11,7 @@ use Rattle.word_rows.specs.declared.link_word.LinkWord.TheVariants.{Nil, Single,
 use Rattle.word_rows.specs.declared.location.Location.{Location}
 use Rattle.word_rows.specs.declared.location.Location.TheVariants.{Tail}
 use Rattle.word_rows.specs.declared.content.Content.{Content}
-use Rattle.word_rows.specs.declared.content.Content.TheVariants.{OfHead, OfTail, OfLink, OfOldTail}
+use Rattle.word_rows.specs.declared.content.Content.TheVariants.{OfHead, OfTail, OfLink, OfValue, OfMark, OfNodeHazard, OfAnnHazard, OfOldTail, OfChainEnd, OfCounts, OfBatchNo, OfOrder}
 use Rattle.core_model.specs.declared.act.Act.{Act}
 use Rattle.core_model.specs.declared.act.Act.TheVariants.{Load, Store, Exchange}
 use Rattle.core_model.specs.Notices.{place}
@@ -63,12 +66,38 @@ same_old_tail x None = is_unknown x
 same_old_tail (Some p) (Some q) = same_place p q
 same_old_tail None (Some q) = false
 
--- Whether what was found is what an exchange expects. No step expects anything of another kind.
+abbrev pub same_bit : Bool → Bool → Bool
+same_bit true b = b
+same_bit false b = not b
+
+abbrev pub same_marks : Marks → Marks → Bool
+same_marks a b = same_bit a.read b.read && (same_bit a.passed b.passed && same_bit a.free b.free)
+
+abbrev pub same_hazard : Option ℕ → Option ℕ → Bool
+same_hazard None None = true
+same_hazard (Some n) (Some m) = n == m
+same_hazard _ _ = false
+
+abbrev pub same_counts : Counts → Counts → Bool
+same_counts a b = (a.enqs == b.enqs) && ((a.deqs == b.deqs) && (a.excess == b.excess))
+
+abbrev pub same_number : BatchNumber → BatchNumber → Bool
+same_number a b = (a.batch == b.batch) && (a.caller == b.caller)
+
+-- whether what was found is what an exchange expects
 abbrev pub same_content : Content → Content → Bool
 same_content (OfHead x) (OfHead y) = same_head x y
 same_content (OfTail x) (OfTail y) = same_place x y
 same_content (OfLink x) (OfLink y) = same_link x y
+same_content (OfValue x) (OfValue y) = x == y
+same_content (OfMark x) (OfMark y) = same_marks x y
+same_content (OfNodeHazard x) (OfNodeHazard y) = same_hazard x y
+same_content (OfAnnHazard x) (OfAnnHazard y) = same_hazard x y
 same_content (OfOldTail x) (OfOldTail y) = same_old_tail x y
+same_content (OfChainEnd x) (OfChainEnd y) = x == y
+same_content (OfCounts x) (OfCounts y) = same_counts x y
+same_content (OfBatchNo x) (OfBatchNo y) = same_number x y
+same_content (OfOrder x) (OfOrder y) = x == y
 same_content _ _ = false
 
 abbrev pub location : Act → Location

@@ -21,6 +21,7 @@ use Rattle.core_model.specs.declared.kind.StepKind.TheVariants as kind
 use Rattle.core_model.specs.declared.point.Draft.{Draft}
 use Rattle.core_model.specs.declared.point.Back.TheVariants as back
 use Rattle.core_model.specs.declared.point.HelpPoint.TheVariants as help
+use Rattle.core_model.specs.declared.point.ManyPoint.TheVariants as many
 use Rattle.core_model.specs.declared.point.Point.{Point}
 use Rattle.core_model.specs.declared.point.Point.TheVariants as point
 use Rattle.core_model.specs.Notices.{field_in}
@@ -28,6 +29,7 @@ use Rattle.core_model.specs.State.{Command, head_in}
 use Rattle.core_model.specs.Act.{is_node}
 use Rattle.core_model.specs.Help.{help_of}
 use Rattle.core_model.specs.Fact.{Fact, drafts, fills, enqueues, goes_on, written, head_written, linearized_is}
+use Rattle.core_model.specs.Stopper.{chain_rows}
 
 abbrev pub act : Draft → BatchPoint → Act
 act d (StoreValue i r v) = Store (Value r) (OfValue v)
@@ -66,12 +68,16 @@ abbrev pub after_head : Draft → HeadWord → Point
 after_head d (Node p) = point.Batch (on_head d p) (StoreField field.OldHead)
 after_head d (Ann a n) = point.Help (help_of a (back.Batch d)) help.LoadOldHead
 
+-- another head word was there at the install; dequeues alone begin their walk again
+abbrev pub retry : Draft → Point
+retry d = cond (d.notice.counts.enqs == 0) (point.Many d many.LoadHead) (point.Batch d LoadHead)
+
 abbrev pub course : Draft → BatchPoint → Content → Course
 course d (StoreValue i r v) x = after_value d i r
 course d (StoreChain i r n) x = GoesOn (point.Batch d (after_chain d i n))
 course d (StoreField f) x = GoesOn (point.Batch d (after_field f))
 course d LoadHead x = GoesOn (after_head d (head_in x))
-course d Install x = GoesOn (cond (is_node (head_in x) d.notice.old_head) (point.Help (help_of d.ann back.Own) help.LoadOldHead) (point.Batch d LoadHead))
+course d Install x = GoesOn (cond (is_node (head_in x) d.notice.old_head) (point.Help (help_of d.ann back.Own) help.LoadOldHead) (retry d))
 
 abbrev pub kind_of : BatchPoint → StepKind
 kind_of (StoreValue i r v) = kind.StoreValue
@@ -86,11 +92,11 @@ call_knows m d = linearized_is false ∷ drafts m d ∷ []
 
 -- with its rows filled and linked, and the fields before f written
 abbrev pub filled : Command → Draft → AnnField → List Fact
-filled m d f = fills m.taken d.notice m.ops d.notice.counts.enqs (d.notice.counts.enqs - 1) ∷ written d f ∷ []
+filled m d f = fills m.taken m.stopped d.notice m.ops d.notice.counts.enqs (chain_rows d.notice.counts - 1) ∷ written d f ∷ []
 
 abbrev pub knows : Command → Draft → BatchPoint → List Fact
-knows m d (StoreValue i r v) = fills m.taken d.notice m.ops i 0 ∷ written d field.OldTail ∷ enqueues m.ops d.notice i r v ∷ []
-knows m d (StoreChain i r n) = fills m.taken d.notice m.ops d.notice.counts.enqs i ∷ written d field.OldTail ∷ goes_on d.notice i r n ∷ []
+knows m d (StoreValue i r v) = fills m.taken m.stopped d.notice m.ops i 0 ∷ written d field.OldTail ∷ enqueues m.ops d.notice i r v ∷ []
+knows m d (StoreChain i r n) = fills m.taken m.stopped d.notice m.ops d.notice.counts.enqs i ∷ written d field.OldTail ∷ goes_on d.notice i r n ∷ []
 knows m d (StoreField f) = filled m d f
 knows m d LoadHead = filled m d field.OldHead
 knows m d Install = head_written d ∷ filled m d field.OldHead

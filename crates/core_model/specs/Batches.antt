@@ -3,10 +3,10 @@ use Rattle.std.specs.Prelude.{ℕ, ◌+◌, ◌*◌, ◌-◌, ◌/◌, List, len
 use Rattle.bq_model.specs.declared.op.Op.{Op}
 use Rattle.bq_model.specs.declared.group.Group.{Group}
 use Rattle.excess_count.specs.Counts.{counts_of}
-use Rattle.excess_count.specs.Excess.{enqueue_count}
 use Rattle.word_rows.specs.Order.{order_word_of}
 use Rattle.core_model.specs.declared.point.Notice.{Notice}
 use Rattle.core_model.specs.LaneSizes.{LaneSizes}
+use Rattle.core_model.specs.Stopper.{chain_rows}
 use Rattle.core_model.specs.Notices.{place, batch_number}
 
 -- each caller has as many announcements as there are callers
@@ -22,7 +22,7 @@ abbrev pub notice_of : ℕ → ℕ → ℕ → List Op → Notice
 notice_of c batch first ops = record {
   old_head = place 0 0;
   first = first;
-  last = first + enqueue_count ops - 1;
+  last = first + chain_rows (counts_of ops) - 1;
   counts = counts_of ops;
   number = batch_number batch c;
   order0 = order_word_of ops 0;

@@ -75,9 +75,9 @@ is_linked _ = false
 
 -- What it knows of its command, before and after its value is stored, and once it is linked; and besides at each step.
 abbrev pub command_knows : ℕ → Caller → Item → EnqueuePoint → List Fact
-command_knows c k x StoreValue = is_op k.ops (Enq x.value) ∷ owns k.taken x.row ∷ []
+command_knows c k x StoreValue = is_op k.ops (Enq x.value) ∷ owns k.taken k.stopped x.row ∷ []
 command_knows c k x (MoveTail p n) = answered k.started_at (own_group c k) (Done ∷ []) ∷ []
-command_knows c k x _ = is_op k.ops (Enq x.value) ∷ owns k.taken x.row ∷ holds_item x ∷ []
+command_knows c k x _ = is_op k.ops (Enq x.value) ∷ owns k.taken k.stopped x.row ∷ holds_item x ∷ []
 
 abbrev pub call_knows : ℕ → Caller → Item → EnqueuePoint → List Fact
 call_knows c k x p = linearized_is (is_linked p) ∷ command_knows c k x p

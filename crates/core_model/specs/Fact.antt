@@ -10,14 +10,16 @@ use Rattle.core_model.specs.declared.point.Notice.{Notice}
 use Rattle.core_model.specs.declared.point.Draft.{Draft}
 use Rattle.core_model.specs.declared.point.Help.{Help}
 use Rattle.core_model.specs.State.{Caller, Command}
+use Rattle.word_rows.specs.declared.location.AnnField.TheVariants.{OldTail}
+use Rattle.core_model.specs.Stopper.{chain_rows}
 
 pub data Fact : Type 0 where
-  -- the row is the caller's, was never linked, and is none of those from the n-th own row on
-  owns : ℕ → ℕ → Fact
+  -- the item row is the caller's, was never linked, and is none of those from the n-th item row and the m-th stopper on
+  owns : ℕ → ℕ → ℕ → Fact
   -- the same of an item, whose value is stored
   holds_item : Item → Fact
-  -- the own rows from the n-th on were never taken
-  unused_rows : ℕ → Fact
+  -- the own item rows from the n-th on and the own stoppers from the m-th on were never taken
+  unused_rows : ℕ → ℕ → Fact
   -- the place is that of a linked row
   linked : Place → Fact
   -- HEAD, or TAIL, named this place once
@@ -45,7 +47,7 @@ pub data Fact : Type 0 where
   -- the draft is that of the running batch
   drafts : Command → Draft → Fact
   -- the rows that the draft names are the caller's and unlinked, with the first i values and the first j links stored
-  fills : ℕ → Notice → List Op → ℕ → ℕ → Fact
+  fills : ℕ → ℕ → Notice → List Op → ℕ → ℕ → Fact
   -- the enqueue of this number is there, and has this row and this value
   enqueues : List Op → Notice → ℕ → ℕ → ℕ → Fact
   -- the row of this number is r, and another comes behind it, which is n
@@ -53,18 +55,29 @@ pub data Fact : Type 0 where
   -- the announcement isn't installed, and its fields that are stored before this one are those of the draft
   written : Draft → AnnField → Fact
   head_written : Draft → Fact
+  -- the draft is that of dequeues alone, of which there is one
+  only_dequeues : Draft → Fact
+  -- While HEAD names this place, the values are those of the rows behind it. The row is the last of these, or the next one.
+  has_walked : Place → List ℕ → ℕ → Fact
+  is_walking : Place → List ℕ → ℕ → Fact
+  -- with so many more values, these are all that the dequeues of the draft want
+  to_walk : Draft → List ℕ → ℕ → Fact
+  -- of dequeues alone there are too few values before this tail, or enough; rows were linked behind this old tail
+  too_few : Help → Place → Fact
+  enough : Help → Place → Fact
+  has_links : Help → Place → Fact
   -- the announcement is installed, and the first n of the fields that a help loads are as it says
   reads : ℕ → Help → Fact
   -- the place is at or behind the dummy, as long as the announcement stands
   stands_at : ℕ → Place → Fact
-  -- the row at this place has a link, once the announcement is decided
+  -- the row at this place has a link, once the announcement is decided by one
   before_end : ℕ → Place → Fact
-  -- the rows of the announcement are linked behind this place, as long as it stands
+  -- as long as the announcement stands it is decided, and where rows were linked for it, behind this place
   is_old_tail : ℕ → Place → Fact
   -- OldTail of the announcement is this place; it is known, and TAIL isn't there any more
   old_tail_is : ℕ → Place → Fact
   tail_over : ℕ → Fact
-  -- The batch gets so many values. The row r lies l links before the new dummy.
+  -- The head passes so many rows for the batch. The row r lies l links before the new dummy.
   gets_so_many : Help → ℕ → Fact
   walks : ℕ → ℕ → ℕ → Fact
   -- the own announcement is installed, and where it is decided, the group stands in the history behind n groups or more
@@ -76,4 +89,8 @@ pub data Fact : Type 0 where
 
 -- what the owner of a batch knows that isn't installed, with its rows filled and the fields before f written
 abbrev pub batch_facts : Command → Draft → AnnField → List Fact
-batch_facts m d f = linearized_is false ∷ drafts m d ∷ fills m.taken d.notice m.ops d.notice.counts.enqs (d.notice.counts.enqs - 1) ∷ written d f ∷ []
+batch_facts m d f = linearized_is false ∷ drafts m d ∷ fills m.taken m.stopped d.notice m.ops d.notice.counts.enqs (chain_rows d.notice.counts - 1) ∷ written d f ∷ []
+
+-- what that of dequeues alone knows before it writes its announcement
+abbrev pub many_facts : Command → Draft → List Fact
+many_facts m d = only_dequeues d ∷ batch_facts m d OldTail

@@ -1,5 +1,5 @@
 -- What a caller knows of the lane while it makes its steps.
-use Rattle.std.specs.Prelude.{◌≡◌, ◌≢◌, ℕ, suc, ◌+◌, ◌-◌, ◌*◌, ◌<◌, ◌≤◌, ◌++◌, true, false, List, [], ◌∷◌, length, get_or, take, Option, Some, None, IsSome}
+use Rattle.std.specs.Prelude.{◌≡◌, ◌≢◌, ℕ, suc, ◌+◌, ◌-◌, ◌*◌, ◌<◌, ◌≤◌, ◌++◌, true, false, List, [], ◌∷◌, length, get_or, take, Option, Some, None, IsSome, ◌⊎◌}
 use Rattle.bq_model.specs.declared.op.Op.{Op}
 use Rattle.bq_model.specs.declared.group.Group.{Group}
 use Rattle.bq_model.specs.History.{last_queue}
@@ -18,16 +18,20 @@ use Rattle.core_model.specs.declared.point.Point.{Point}
 use Rattle.core_model.specs.declared.point.Point.TheVariants.{Idle}
 use Rattle.core_model.specs.declared.point.Point.TheVariants as point
 use Rattle.core_model.specs.Functions.{run}
-use Rattle.core_model.specs.LaneSizes.{LaneSizes, item, IsItem}
+use Rattle.core_model.specs.LaneSizes.{LaneSizes, item, IsItem, stopper}
 use Rattle.core_model.specs.Notices.{batch_number}
 use Rattle.excess_count.specs.Counts.{successes_of, counts_of}
 use Rattle.core_model.specs.Batches.{own_ann, owner_of}
 use Rattle.core_model.specs.State.{Caller, Command, command}
-use Rattle.core_model.specs.Fact.{Fact, owns, holds_item, unused_rows, linked, head_seen, tail_seen, tail_past, next_is, by_single, next_value, linearized_is, is_op, answered, since, kept, rests, drafts, fills, enqueues, goes_on, written, head_written, reads, stands_at, before_end, is_old_tail, old_tail_is, tail_over, gets_so_many, walks, takes_effect, has_read, is_reading}
+use Rattle.core_model.specs.Fact.{Fact, owns, holds_item, unused_rows, linked, head_seen, tail_seen, tail_past, next_is, by_single, next_value, linearized_is, is_op, answered, since, kept, rests, drafts, fills, enqueues, goes_on, written, head_written, reads, stands_at, before_end, is_old_tail, old_tail_is, tail_over, gets_so_many, walks, takes_effect, has_read, is_reading, only_dequeues, has_walked, is_walking, to_walk, too_few, enough, has_links}
 use Rattle.core_model.specs.Help as helping
 use Rattle.core_model.specs.Enqueue as enqueue
 use Rattle.core_model.specs.Dequeue as dequeue
 use Rattle.core_model.specs.Batch as batching
+use Rattle.core_model.specs.Many as dequeuing
+use Rattle.core_model.specs.Help.{before_it}
+use Rattle.core_model.specs.Stopper.{chain_rows, linked_rows}
+use Rattle.excess_count.specs.Excess.{excess_of}
 use Rattle.core_model.specs.Answer as answering
 use Rattle.core_model.specs.Ghost.{Stage, unused, decided, World, positions, at, Unlinked, On, Installed}
 use Rattle.core_model.specs.Kept.{Stands, Kept}
@@ -71,19 +75,24 @@ abbrev pub AllAgree : List AnnField → Option Place → Notice → Notice → T
 AllAgree [] o s n = Unit {0}
 AllAgree (f ∷ fs) o s n = Agrees f o s n × AllAgree fs o s n
 
+-- the row is none of caller c's item rows from the n-th on, and none of its stoppers from the m-th on
+pub record NotToCome (z : LaneSizes) (c n m r : ℕ) : Type 0 where
+  pub items : (i : ℕ) → n ≤ i → i < z.items → item z c i ≢ r
+  pub stoppers : (i : ℕ) → m ≤ i → stopper z c i ≢ r
+
 -- the row is of caller c, and not linked
 pub record IsFree (z : LaneSizes) (c : ℕ) (spot : ℕ → Option ℕ) (r : ℕ) : Type 0 where
   pub at_home : z.home r ≡ c
   pub inside : r < z.rows
   pub unlinked : spot r ≡ None
-  pub is_item : IsItem z r
 
--- So many rows from `first` on are free, and none is one from the own row n on. They have the first i values of the
--- operations, and the first j are joined, each to the next.
-pub record Fills (z : LaneSizes) (c : ℕ) (spot : ℕ → Option ℕ) (value : ℕ → ℕ) (link : ℕ → LinkWord) (n first rows : ℕ) (ops : List Op) (i j : ℕ) : Type 0 where
+-- So many rows from `first` on are free, the first e of them are item rows, and none is to come from the own item row n or
+-- the own stopper m on. They have the first i values of the operations, and the first j are joined, each to the next.
+pub record Fills (z : LaneSizes) (c : ℕ) (spot : ℕ → Option ℕ) (value : ℕ → ℕ) (link : ℕ → LinkWord) (n m first rows e : ℕ) (ops : List Op) (i j : ℕ) : Type 0 where
   pub free : (l : ℕ) → l < rows → IsFree z c spot (first + l)
-  pub taken : (l x : ℕ) → l < rows → n ≤ x → item z c x ≢ first + l
-  pub values : (l : ℕ) → l < rows → l < i → value (first + l) ≡ get_or (enqueued ops) l 0
+  pub items : (l : ℕ) → l < e → IsItem z (first + l)
+  pub taken : (l : ℕ) → l < rows → NotToCome z c n m (first + l)
+  pub values : (l : ℕ) → l < e → l < i → value (first + l) ≡ get_or (enqueued ops) l 0
   pub joined : (l : ℕ) → l < rows → l < j → link (first + l) ≡ Single (suc (first + l))
   pub nil : (l : ℕ) → l < rows → j ≤ l → link (first + l) ≡ Nil
 
@@ -91,8 +100,8 @@ pub record Fills (z : LaneSizes) (c : ℕ) (spot : ℕ → Option ℕ) (value : 
 pub record IsDraft (z : LaneSizes) (c : ℕ) (m : Command) (d : Draft) : Type 0 where
   pub known : c < z.callers
   pub describes : Describes c m d.notice
-  pub some : 0 < d.notice.counts.enqs
-  pub last : suc d.notice.last ≡ d.notice.first + d.notice.counts.enqs
+  pub some : 0 < length m.ops
+  pub last : suc d.notice.last ≡ d.notice.first + chain_rows d.notice.counts
   pub taken : (i : ℕ) → m.made ≤ i → own_ann z c i ≢ d.ann
   pub inside : d.ann < z.callers * z.callers
 
@@ -116,11 +125,13 @@ pub record Linearized (z : LaneSizes) (w : World) (a i n : ℕ) (g : Group) : Ty
   pub stands : w.history ≡ (pre ++ g ∷ []) ++ post
   pub since_start : n ≤ length pre
   pub counts : (w.memory.notice a).counts ≡ counts_of g.ops
-  -- the position of the old dummy, and how long the queue was
+  -- The position of the old dummy. The queue was as long as the rows behind it up to the old tail, or these are enough for
+  -- all its dequeues.
   pub dummy : ℕ
   pub old_head : (w.memory.notice a).old_head ≡ at z.first w.ghost.path dummy
   pub before : dummy ≤ i
-  pub length_queue : length (last_queue pre) ≡ i - dummy
+  pub no_shorter : i - dummy ≤ length (last_queue pre)
+  pub length_queue : (length (last_queue pre) ≡ i - dummy) ⊎ (excess_of g.ops ≤ i - dummy)
   -- the values that the batch gets are those of the rows behind the old dummy, and they are there
   pub values : take (successes_of (w.memory.notice a).counts (i - dummy)) (values_from (last_queue pre) g.ops) ≡ run (λ j. w.memory.value (w.ghost.path j)) (suc dummy) (successes_of (w.memory.notice a).counts (i - dummy))
   pub rows : (x : ℕ) → x ≤ successes_of (w.memory.notice a).counts (i - dummy) → On w (dummy + x) (w.ghost.path (dummy + x))
@@ -131,6 +142,7 @@ call_knows c k Idle = linearized_is false ∷ []
 call_knows c k (point.Enqueue x p) = enqueue.call_knows c k x p
 call_knows c k (point.Dequeue p) = dequeue.call_knows (command k)
 call_knows c k (point.Batch d p) = batching.call_knows (command k) d
+call_knows c k (point.Many d p) = dequeuing.call_knows (command k) d
 call_knows c k (point.Help h p) = helping.call_knows c (command k) h p
 call_knows c k (point.Answer p) = answering.call_knows
 
@@ -139,6 +151,7 @@ knows c k Idle = rests k ∷ []
 knows c k (point.Enqueue x p) = enqueue.knows p
 knows c k (point.Dequeue p) = dequeue.knows p
 knows c k (point.Batch d p) = batching.knows (command k) d p
+knows c k (point.Many d p) = dequeuing.knows k.values d p
 knows c k (point.Help h p) = helping.knows h p
 knows c k (point.Answer p) = answering.knows c k p
 
@@ -201,12 +214,12 @@ module _ (z : LaneSizes) (w : World) where
     pub inside : n < z.rows
     pub there : (i : ℕ) → p.count ≡ z.first + i → (suc i < positions w.ghost) × (w.ghost.path (suc i) ≡ n)
 
-  -- the place is that of the row behind which the announcement is decided
+  -- the announcement is decided, and where rows were linked for it, behind the row at this place
   pub record IsDecidedBehind (a : ℕ) (p : Place) : Type 0 where
     pub position : ℕ
     pub is_decided : w.ghost.stage a ≡ decided position
     pub inside : position < positions w.ghost
-    pub place : p ≡ at z.first w.ghost.path position
+    pub place : 0 < w.ghost.span a → p ≡ at z.first w.ghost.path position
 
   -- OldTail of the announcement is this place
   pub record HasOldTail (a : ℕ) (q : Place) : Type 0 where
@@ -219,9 +232,9 @@ module _ (z : LaneSizes) (w : World) where
     pub position : ℕ
     pub is_decided : w.ghost.stage a ≡ decided position
     pub known : (q : Place) × (w.memory.old_tail a ≡ Some q)
-    pub past : w.ghost.ann ≡ Some a → position + (w.memory.notice a).counts.enqs ≤ w.ghost.tail
+    pub past : w.ghost.ann ≡ Some a → position + w.ghost.span a ≤ w.ghost.tail
 
-  -- the batch of the helped announcement gets m values
+  -- the head passes m rows for the batch of the helped announcement
   pub record Gets (h : Help) (m : ℕ) : Type 0 where
     pub position : ℕ
     pub is_decided : w.ghost.stage h.ann ≡ decided position
@@ -242,6 +255,20 @@ module _ (z : LaneSizes) (w : World) where
     pub inside : r < z.rows
     pub lies : w.ghost.ann ≡ Some a → LiesBefore r l
 
+  -- While HEAD names the place p, the values are those of the rows behind it, and r is the row of the last of these.
+  pub record HasWalked (p : Place) (vs : List ℕ) (r : ℕ) : Type 0 where
+    pub inside : r < z.rows
+    pub seen : p.count ≤ z.first + w.ghost.head
+    pub there : p.count ≡ z.first + w.ghost.head → (length vs ≤ w.ghost.rest) × (w.ghost.path (w.ghost.head + length vs) ≡ r)
+        × (vs ≡ run (λ j. w.memory.value (w.ghost.path j)) (suc w.ghost.head) (length vs))
+
+  -- the same, where the row r comes behind these
+  pub record IsWalking (p : Place) (vs : List ℕ) (r : ℕ) : Type 0 where
+    pub inside : r < z.rows
+    pub seen : p.count ≤ z.first + w.ghost.head
+    pub there : p.count ≡ z.first + w.ghost.head → (length vs < w.ghost.rest) × (w.ghost.path (suc (w.ghost.head + length vs)) ≡ r)
+        × (vs ≡ run (λ j. w.memory.value (w.ghost.path j)) (suc w.ghost.head) (length vs))
+
   -- The announcement a of caller c is installed, and is its only one in HEAD. Where it is decided, its group stands in the
   -- history behind n groups or more.
   pub record TakesEffect (c a n : ℕ) (g : Group) : Type 0 where
@@ -256,14 +283,13 @@ module _ (z : LaneSizes) where
     pub record Owns (r : ℕ) : Type 0 where
       pub at_home : z.home r ≡ c
       pub inside : r < z.rows
-      pub is_item : IsItem z r
       pub unlinked : Unlinked w r
       pub nil : w.memory.link r ≡ Nil
 
     abbrev pub Holds : Fact → Type 0
-    Holds (owns n r) = Owns r × ((i : ℕ) → n ≤ i → item z c i ≢ r)
+    Holds (owns n m r) = Owns r × NotToCome z c n m r × IsItem z r
     Holds (holds_item x) = Owns x.row × (w.memory.value x.row ≡ x.value)
-    Holds (unused_rows n) = (i : ℕ) → n ≤ i → i < z.items → c < z.callers → Owns (item z c i)
+    Holds (unused_rows n m) = ((i : ℕ) → n ≤ i → i < z.items → c < z.callers → Owns (item z c i)) × ((i : ℕ) → m ≤ i → i < z.callers → c < z.callers → Owns (stopper z c i))
     Holds (linked p) = Linked z w p
     Holds (head_seen p) = p.count ≤ z.first + w.ghost.head
     Holds (tail_seen p) = p.count ≤ z.first + w.ghost.tail
@@ -279,14 +305,21 @@ module _ (z : LaneSizes) where
     Holds (kept k) = Kept w.history c k
     Holds (rests k) = (k.ops ≡ []) × (k.outcome ≢ None → IsSome k.ended_at)
     Holds (drafts m d) = IsDraft z c m d
-    Holds (fills n s ops i j) = Fills z c w.ghost.spot w.memory.value w.memory.link n s.first s.counts.enqs ops i j
+    Holds (fills n m s ops i j) = Fills z c w.ghost.spot w.memory.value w.memory.link n m s.first (chain_rows s.counts) s.counts.enqs ops i j
     Holds (enqueues ops s i r v) = Enqueues ops s i r v
     Holds (goes_on s i r n) = Chains s i r n
     Holds (written d f) = Written z c (w.ghost.stage d.ann) (w.memory.old_tail d.ann) (w.memory.notice d.ann) d f
     Holds (head_written d) = HeadWritten z c (w.ghost.stage d.ann) (w.memory.notice d.ann) d
+    Holds (only_dequeues d) = (d.notice.counts.enqs ≡ 0) × (0 < d.notice.counts.deqs)
+    Holds (has_walked p vs r) = HasWalked z w p vs r
+    Holds (is_walking p vs r) = IsWalking z w p vs r
+    Holds (to_walk d vs l) = length vs + l ≡ d.notice.counts.deqs
+    Holds (too_few h p) = h.counts.enqs ≡ 0 → before_it h p < h.counts.deqs
+    Holds (enough h p) = (h.counts.enqs ≡ 0) × (h.counts.deqs ≤ before_it h p)
+    Holds (has_links h q) = 0 < linked_rows h.counts (before_it h q)
     Holds (reads n h) = Reads z w n h
     Holds (stands_at a p) = Installed w a × (w.ghost.ann ≡ Some a → z.first + w.ghost.head ≤ p.count)
-    Holds (before_end a p) = Installed w a × ((i : ℕ) → p.count ≡ z.first + i → (i < positions w.ghost) × ((j : ℕ) → w.ghost.stage a ≡ decided j → suc i < positions w.ghost))
+    Holds (before_end a p) = Installed w a × ((i : ℕ) → p.count ≡ z.first + i → (i < positions w.ghost) × ((j : ℕ) → w.ghost.stage a ≡ decided j → 0 < w.ghost.span a → suc i < positions w.ghost))
     Holds (is_old_tail a p) = Installed w a × (w.ghost.ann ≡ Some a → IsDecidedBehind z w a p)
     Holds (old_tail_is a q) = HasOldTail z w a q
     Holds (tail_over a) = IsOver z w a
@@ -312,7 +345,7 @@ module _ (z : LaneSizes) where
 
     -- what caller c, which keeps k, knows
     pub record Knows (k : Caller) : Type 0 where
-      pub unused : Holds w c (unused_rows k.taken)
+      pub unused : Holds w c (unused_rows k.taken k.stopped)
       pub started : Holds w c (since k.started_at)
       pub last : Holds w c (kept k)
       pub at_point : AtPoint k k.point

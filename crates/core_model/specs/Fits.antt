@@ -52,6 +52,7 @@ module _ (s : Shape) where
   BackFits (back.Enqueue x) = ItemFits x
   BackFits back.Dequeue = Unit {0}
   BackFits (back.Batch d) = DraftFits d
+  BackFits (back.Many d) = DraftFits d
 
   pub record HelpFits (h : Help) : Type 0 where
     pub ann : h.ann < anns_of s

@@ -13,7 +13,7 @@ pub data Stage : Type 0 where
   unused : Stage
   -- it stands in HEAD, and its rows aren't linked
   waiting : Stage
-  -- its rows were linked behind the row at this position
+  -- it was decided behind the row at this position, and its rows were linked there, if any
   decided : ℕ → Stage
 
 -- What the words don't say of a lane. Each row that was ever linked has a position, from 0 on; the row at the position i
@@ -34,8 +34,9 @@ pub record Ghost : Type 0 where
   pub queued : ℕ
   -- the running command of a caller stands in the history
   pub linearized : ℕ → Bool
-  -- how far each announcement is, and the rows of the one that waits, in order
+  -- how far each announcement is, how many rows were linked as it was decided, and the rows of the one that waits, in order
   pub stage : ℕ → Stage
+  pub span : ℕ → ℕ
   pub chain : ℕ → ℕ
   -- the announcement whose rows were linked behind a position
   pub cause : ℕ → ℕ

@@ -1,5 +1,6 @@
--- A help: it reads the announcement in HEAD, links its chain, records its old tail, and moves TAIL and HEAD over it.
-use Rattle.std.specs.Prelude.{◌<◌, ℕ, zero, suc, ◌-◌, ◌==◌, nat_lt, cond, List, [], ◌∷◌, length, Option, Some, None, false}
+-- A help: it reads the announcement in HEAD, links its chain or its stopper where it has one to link, records its old tail,
+-- and moves TAIL and HEAD.
+use Rattle.std.specs.Prelude.{◌<◌, ℕ, zero, suc, ◌-◌, ◌==◌, nat_lt, cond, List, [], ◌∷◌, length, Option, Some, None, false, ◌&&◌, nat_le, Bool}
 use Rattle.bq_model.specs.declared.op.Op.TheVariants.{Enq, Deq}
 use Rattle.word_rows.specs.declared.place.Place.{Place}
 use Rattle.word_rows.specs.declared.head_word.HeadWord.TheVariants.{Node, Ann}
@@ -19,10 +20,11 @@ use Rattle.core_model.specs.declared.point.Back.{Back}
 use Rattle.core_model.specs.declared.point.Back.TheVariants as back
 use Rattle.core_model.specs.declared.point.Help.{Help}
 use Rattle.core_model.specs.declared.point.HelpPoint.{HelpPoint}
-use Rattle.core_model.specs.declared.point.HelpPoint.TheVariants.{LoadOldHead, LoadFirst, LoadLast, LoadCounts, LoadTail, LoadOldTail, LoadLink, LinkChain, PassTail, RecordTail, LoadTailOver, MoveTailOver, LoadWalk, MoveHead}
+use Rattle.core_model.specs.declared.point.HelpPoint.TheVariants.{LoadOldHead, LoadFirst, LoadLast, LoadCounts, LoadTail, LoadOldTail, LoadLink, LinkChain, Decide, PassTail, RecordTail, LoadTailOver, MoveTailOver, LoadWalk, MoveHead}
 use Rattle.core_model.specs.declared.point.EnqueuePoint.TheVariants as enq
 use Rattle.core_model.specs.declared.point.DequeuePoint.TheVariants as deq
 use Rattle.core_model.specs.declared.point.BatchPoint.TheVariants as batch
+use Rattle.core_model.specs.declared.point.ManyPoint.TheVariants as many
 use Rattle.core_model.specs.declared.point.AnswerPoint.TheVariants as answer
 use Rattle.core_model.specs.declared.point.Point.{Point}
 use Rattle.core_model.specs.declared.point.Point.TheVariants as point
@@ -30,14 +32,19 @@ use Rattle.core_model.specs.Notices.{place, batch_counts, dummy_in, chain_end_in
 use Rattle.excess_count.specs.Counts.{successes_of}
 use Rattle.core_model.specs.State.{Command, tail_in, link_in, old_tail_in}
 use Rattle.core_model.specs.Act.{same_place, far_behind, by_one}
-use Rattle.core_model.specs.Fact.{Fact, owns, holds_item, linked, tail_seen, next_is, by_single, linearized_is, is_op, reads, stands_at, before_end, is_old_tail, old_tail_is, tail_over, gets_so_many, walks, takes_effect, batch_facts}
+use Rattle.core_model.specs.Fact.{Fact, owns, holds_item, linked, tail_seen, next_is, by_single, linearized_is, is_op, reads, stands_at, before_end, is_old_tail, old_tail_is, tail_over, gets_so_many, walks, takes_effect, batch_facts, too_few, enough, has_links, many_facts}
 use Rattle.bq_model.specs.declared.shape.Shape.{Shape}
 use Rattle.word_rows.specs.Fits.{limits_of, PlaceFits}
 use Rattle.word_rows.specs.Sizes.{rows_of}
+use Rattle.core_model.specs.Stopper.{is_stopped, linked_rows}
 
 -- the help of an announcement of which nothing is read yet
 abbrev pub help_of : ℕ → Back → Help
 help_of a b = record { ann = a; old_head = place 0 0; first = 0; last = 0; counts = batch_counts 0 0 0; back = b }
+
+-- how many values are queued before the batch, by its old tail
+abbrev pub before_it : Help → Place → ℕ
+before_it h q = q.count - h.old_head.count
 
 abbrev pub act : Help → HelpPoint → Act
 act h LoadOldHead = Load (AnnWord h.ann field.OldHead)
@@ -48,28 +55,19 @@ act h LoadTail = Load Tail
 act h (LoadOldTail p) = Load (AnnWord h.ann field.OldTail)
 act h (LoadLink p) = Load (Link p.row)
 act h (LinkChain p) = Exchange (Link p.row) (OfLink Nil) (OfLink (Chain h.first))
+act h (Decide p) = Exchange (AnnWord h.ann field.OldTail) (OfOldTail None) (OfOldTail (Some p))
 act h (PassTail p n) = by_one p n
 act h (RecordTail p) = Exchange (AnnWord h.ann field.OldTail) (OfOldTail None) (OfOldTail (Some p))
 act h (LoadTailOver q) = Load Tail
-act h (MoveTailOver q) = Exchange Tail (OfTail q) (OfTail (far_behind q h.last h.counts.enqs))
+act h (MoveTailOver q) = Exchange Tail (OfTail q) (OfTail (far_behind q h.last (linked_rows h.counts (before_it h q))))
 act h (LoadWalk n r l) = Load (Link r)
 act h (MoveHead n r) = Exchange Head (OfHead (Ann h.ann h.old_head.count)) (OfHead (Node (far_behind h.old_head r n)))
-
--- where it goes on with its announcement
-abbrev pub after_old_tail : Place → Option Place → HelpPoint
-after_old_tail p None = LoadLink p
-after_old_tail p (Some q) = LoadTailOver q
 
 abbrev pub after_link : Help → Place → LinkWord → HelpPoint
 after_link h p Nil = LinkChain p
 after_link h p (Single n) = PassTail p n
 after_link h p (Chain n) = cond (n == h.first) (RecordTail p) LoadTail
 after_link h p Shut = LoadTail
-
--- OldTail is known, from this exchange or from an earlier one
-abbrev pub after_record : Place → Option Place → HelpPoint
-after_record p None = LoadTailOver p
-after_record p (Some q) = LoadTailOver q
 
 -- the walk to the new dummy has come to the row r, with l links to go
 abbrev pub walk_on : ℕ → ℕ → ℕ → HelpPoint
@@ -80,12 +78,27 @@ walk_on n r (suc l) = LoadWalk n r l
 abbrev pub walk_from : Help → Place → ℕ → ℕ → HelpPoint
 walk_from h q n s = cond (nat_lt s n) (walk_on s h.old_head.row s) (walk_on s q.row (s - n))
 
--- how many values are queued before the batch, by its old tail
-abbrev pub before_it : Help → Place → ℕ
-before_it h q = q.count - h.old_head.count
-
+-- the new dummy is the stopper where that is linked, right behind all the values that were queued
 abbrev pub walk : Help → Place → HelpPoint
-walk h q = walk_from h q (before_it h q) (successes_of h.counts (before_it h q))
+walk h q = cond (is_stopped h.counts (before_it h q)) (MoveHead (suc (before_it h q)) h.last) (walk_from h q (before_it h q) (successes_of h.counts (before_it h q)))
+
+-- OldTail is known: TAIL is to move over the rows that were linked, if any
+abbrev pub at_old_tail : Help → Place → HelpPoint
+at_old_tail h q = cond (nat_lt 0 (linked_rows h.counts (before_it h q))) (LoadTailOver q) (walk h q)
+
+-- dequeues alone find enough values before this tail
+abbrev pub has_enough : Help → Place → Bool
+has_enough h p = (h.counts.enqs == 0) && nat_le h.counts.deqs (before_it h p)
+
+-- where it goes on with its announcement
+abbrev pub after_old_tail : Help → Place → Option Place → HelpPoint
+after_old_tail h p None = cond (has_enough h p) (Decide p) (LoadLink p)
+after_old_tail h p (Some q) = at_old_tail h q
+
+-- OldTail is known, from this exchange or from an earlier one
+abbrev pub after_record : Help → Place → Option Place → HelpPoint
+after_record h p None = at_old_tail h p
+after_record h p (Some q) = at_old_tail h q
 
 -- after the help
 abbrev pub back_point : Help → Back → Point
@@ -93,6 +106,7 @@ back_point h back.Own = point.Answer (answer.LoadOldTail h)
 back_point h (back.Enqueue i) = point.Enqueue i enq.LoadTail
 back_point h back.Dequeue = point.Dequeue deq.LoadHead
 back_point h (back.Batch d) = point.Batch d batch.LoadHead
+back_point h (back.Many d) = point.Many d many.LoadHead
 
 abbrev pub after_walk : Help → ℕ → ℕ → LinkWord → Point
 after_walk h n l Nil = back_point h h.back
@@ -106,38 +120,41 @@ course h LoadFirst x = GoesOn (point.Help (record h { first = chain_end_in x }) 
 course h LoadLast x = GoesOn (point.Help (record h { last = chain_end_in x }) LoadCounts)
 course h LoadCounts x = GoesOn (point.Help (record h { counts = counts_in x }) LoadTail)
 course h LoadTail x = GoesOn (point.Help h (LoadOldTail (tail_in x)))
-course h (LoadOldTail p) x = GoesOn (point.Help h (after_old_tail p (old_tail_in x)))
+course h (LoadOldTail p) x = GoesOn (point.Help h (after_old_tail h p (old_tail_in x)))
 course h (LoadLink p) x = GoesOn (point.Help h (after_link h p (link_in x)))
 course h (LinkChain p) x = GoesOn (point.Help h LoadTail)
+course h (Decide p) x = GoesOn (point.Help h (after_record h p (old_tail_in x)))
 course h (PassTail p r) x = GoesOn (point.Help h LoadTail)
-course h (RecordTail p) x = GoesOn (point.Help h (after_record p (old_tail_in x)))
+course h (RecordTail p) x = GoesOn (point.Help h (after_record h p (old_tail_in x)))
 course h (LoadTailOver q) x = GoesOn (point.Help h (cond (same_place (tail_in x) q) (MoveTailOver q) (walk h q)))
 course h (MoveTailOver q) x = GoesOn (point.Help h (walk h q))
 course h (LoadWalk m r l) x = GoesOn (after_walk h m l (link_in x))
 course h (MoveHead m r) x = GoesOn (back_point h h.back)
 
-abbrev pub kind_of : HelpPoint → StepKind
-kind_of LoadOldHead = kind.LoadAnn
-kind_of LoadFirst = kind.LoadAnn
-kind_of LoadLast = kind.LoadAnn
-kind_of LoadCounts = kind.LoadAnn
-kind_of LoadTail = kind.LoadTail
-kind_of (LoadOldTail p) = kind.LoadAnn
-kind_of (LoadLink p) = kind.LoadLink
-kind_of (LinkChain p) = kind.LinkChain
-kind_of (PassTail p n) = kind.MoveTail
-kind_of (RecordTail p) = kind.RecordTail
-kind_of (LoadTailOver q) = kind.LoadTail
-kind_of (MoveTailOver q) = kind.MoveTailOver
-kind_of (LoadWalk m r l) = kind.LoadLink
-kind_of (MoveHead m r) = kind.MoveHeadAnn
+abbrev pub kind_of : Help → HelpPoint → StepKind
+kind_of h LoadOldHead = kind.LoadAnn
+kind_of h LoadFirst = kind.LoadAnn
+kind_of h LoadLast = kind.LoadAnn
+kind_of h LoadCounts = kind.LoadAnn
+kind_of h LoadTail = kind.LoadTail
+kind_of h (LoadOldTail p) = kind.LoadAnn
+kind_of h (LoadLink p) = kind.LoadLink
+kind_of h (LinkChain p) = cond (h.counts.enqs == 0) kind.LinkStopper kind.LinkChain
+kind_of h (Decide p) = kind.Decide
+kind_of h (PassTail p n) = kind.MoveTail
+kind_of h (RecordTail p) = kind.RecordTail
+kind_of h (LoadTailOver q) = kind.LoadTail
+kind_of h (MoveTailOver q) = kind.MoveTailOver
+kind_of h (LoadWalk m r l) = kind.LoadLink
+kind_of h (MoveHead m r) = kind.MoveHeadAnn
 
 -- What a helping caller knows of its own command. Of an own announcement it knows only what no helper's step changes.
 abbrev pub back_facts : ℕ → Command → ℕ → Back → List Fact
 back_facts c m a back.Own = takes_effect a m.started_at (record { caller = c; batch = length m.mine; ops = m.ops }) ∷ []
-back_facts c m a (back.Enqueue x) = linearized_is false ∷ is_op m.ops (Enq x.value) ∷ owns m.taken x.row ∷ holds_item x ∷ []
+back_facts c m a (back.Enqueue x) = linearized_is false ∷ is_op m.ops (Enq x.value) ∷ owns m.taken m.stopped x.row ∷ holds_item x ∷ []
 back_facts c m a back.Dequeue = linearized_is false ∷ is_op m.ops Deq ∷ []
 back_facts c m a (back.Batch d) = batch_facts m d field.OldHead
+back_facts c m a (back.Many d) = many_facts m d
 
 -- how many fields it has loaded
 abbrev pub loaded : HelpPoint → ℕ
@@ -153,12 +170,13 @@ call_knows c m h p = reads (loaded p) h ∷ back_facts c m h.ann h.back
 
 abbrev pub knows : Help → HelpPoint → List Fact
 knows h (LoadOldTail p) = linked p ∷ tail_seen p ∷ stands_at h.ann p ∷ []
-knows h (LoadLink p) = linked p ∷ tail_seen p ∷ stands_at h.ann p ∷ before_end h.ann p ∷ []
-knows h (LinkChain p) = linked p ∷ tail_seen p ∷ stands_at h.ann p ∷ before_end h.ann p ∷ []
+knows h (LoadLink p) = linked p ∷ tail_seen p ∷ stands_at h.ann p ∷ before_end h.ann p ∷ too_few h p ∷ []
+knows h (LinkChain p) = linked p ∷ tail_seen p ∷ stands_at h.ann p ∷ before_end h.ann p ∷ too_few h p ∷ []
+knows h (Decide p) = linked p ∷ tail_seen p ∷ stands_at h.ann p ∷ enough h p ∷ []
 knows h (PassTail p n) = next_is p n ∷ by_single p ∷ []
 knows h (RecordTail p) = is_old_tail h.ann p ∷ []
-knows h (LoadTailOver q) = old_tail_is h.ann q ∷ []
-knows h (MoveTailOver q) = old_tail_is h.ann q ∷ []
+knows h (LoadTailOver q) = old_tail_is h.ann q ∷ has_links h q ∷ []
+knows h (MoveTailOver q) = old_tail_is h.ann q ∷ has_links h q ∷ []
 knows h (LoadWalk m r l) = walks h.ann r (suc l) ∷ gets_so_many h m ∷ tail_over h.ann ∷ []
 knows h (MoveHead m r) = walks h.ann r 0 ∷ gets_so_many h m ∷ tail_over h.ann ∷ []
 knows h _ = []
@@ -168,6 +186,7 @@ abbrev pub fits : Shape → HelpPoint → Type 0
 fits s (LoadOldTail p) = PlaceFits (limits_of s) p
 fits s (LoadLink p) = PlaceFits (limits_of s) p
 fits s (LinkChain p) = PlaceFits (limits_of s) p
+fits s (Decide p) = PlaceFits (limits_of s) p
 fits s (PassTail p n) = PlaceFits (limits_of s) p × (n < rows_of s)
 fits s (RecordTail p) = PlaceFits (limits_of s) p
 fits s (LoadTailOver q) = PlaceFits (limits_of s) q

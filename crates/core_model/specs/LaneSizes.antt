@@ -20,6 +20,10 @@ pub record LaneSizes : Type 0 where
 abbrev pub item : LaneSizes → ℕ → ℕ → ℕ
 item z c i = z.first_row c + i
 
+-- the i-th stopper row of caller c
+abbrev pub stopper : LaneSizes → ℕ → ℕ → ℕ
+stopper z c i = z.first_row c + z.items + i
+
 -- the row is an item row of some caller
 abbrev pub IsItem : LaneSizes → ℕ → Type 0
 IsItem z r = (c : ℕ) × (i : ℕ) × (c < z.callers) × (i < z.items) × (item z c i ≡ r)

@@ -18,13 +18,13 @@ use Rattle.core_model.specs.declared.point.Back.TheVariants as back
 use Rattle.core_model.specs.declared.point.Point.{Point}
 use Rattle.core_model.specs.declared.point.Point.TheVariants as point
 use Rattle.core_model.specs.Functions.{run}
-use Rattle.core_model.specs.LaneSizes.{LaneSizes, item, IsItem}
-use Rattle.excess_count.specs.Counts.{successes_of}
+use Rattle.core_model.specs.LaneSizes.{LaneSizes, IsItem}
+use Rattle.core_model.specs.Stopper.{chain_rows, linked_rows, passes}
 use Rattle.core_model.specs.Batches.{own_ann, owner_of, many_count}
 use Rattle.core_model.specs.State.{Memory, Caller, State, command, own_group}
 use Rattle.core_model.specs.Start.{anns_taken}
 use Rattle.core_model.specs.Ghost.{Stage, unused, waiting, decided, Ghost, World, joint, at}
-use Rattle.core_model.specs.Facts.{Describes, Knows}
+use Rattle.core_model.specs.Facts.{Describes, NotToCome, Knows}
 
 -- the values of the rows behind the shown head, first to last
 abbrev pub shown_queue : (ℕ → ℕ) → Ghost → List ℕ
@@ -66,12 +66,14 @@ OwnGroups c h k linearized = mine h c ≡ k.mine ++ cond linearized (own_group c
 
 -- A caller whose commands made these groups, and which runs these operations, is within its allowance. It took one row for
 -- each of its enqueues, and one announcement for each batch of two operations or more, and has so many.
-pub record Allowed (z : LaneSizes) (groups : List Group) (running : List Op) (taken made : ℕ) : Type 0 where
+pub record Allowed (z : LaneSizes) (groups : List Group) (running : List Op) (taken stopped made : ℕ) : Type 0 where
   pub within : length (operations groups) + length running ≤ z.allowance
   pub rows : taken ≡ enqueue_count (operations groups) + enqueue_count running
   pub has_rows : taken ≤ z.items
   pub anns : made ≡ many_count groups + anns_taken running
   pub has_anns : made ≤ z.callers
+  -- a stopper comes with an announcement
+  pub few_stoppers : stopped ≤ made
 
 -- each link names a row of the lane
 abbrev pub LinksIn : ℕ → LinkWord → Type 0
@@ -79,47 +81,49 @@ LinksIn rows (Single r) = r < rows
 LinksIn rows (Chain r) = r < rows
 LinksIn rows _ = Unit {0}
 
--- the rows of a decided announcement lie behind the position i, for ever
-pub record Bound (first : ℕ) (path : ℕ → ℕ) (chained : ℕ → Bool) (cause : ℕ → ℕ) (total tail : ℕ) (notice : Notice) (a i : ℕ) : Type 0 where
-  pub causes : cause i ≡ a
-  pub by_chain : chained i ≡ true
-  pub some : 0 < notice.counts.enqs
-  pub within : i + notice.counts.enqs ≤ total
-  pub starts : path (suc i) ≡ notice.first
-  pub ends : path (i + notice.counts.enqs) ≡ notice.last
-  pub joined : (j : ℕ) → i < j → j < i + notice.counts.enqs → chained j ≡ false
+-- the rows of a decided announcement, so many, lie behind the position i, for ever
+pub record Bound (first : ℕ) (path : ℕ → ℕ) (chained : ℕ → Bool) (cause : ℕ → ℕ) (total tail : ℕ) (notice : Notice) (a i span : ℕ) : Type 0 where
+  pub causes : 0 < span → cause i ≡ a
+  pub by_chain : 0 < span → chained i ≡ true
+  pub within : i + span ≤ total
+  pub starts : 0 < span → path (suc i) ≡ notice.first
+  pub ends : 0 < span → path (i + span) ≡ notice.last
+  pub joined : (j : ℕ) → i < j → j < i + span → chained j ≡ false
   pub reached : i ≤ tail
-  -- its old dummy is no later, and its dequeues pass its enqueues by the excess at most
-  pub old_dummy : (h : ℕ) × (notice.old_head ≡ at first path h) × (h ≤ i)
+  -- its old dummy is no later, and tells with i how many rows were linked
+  pub old_dummy : (h : ℕ) × (notice.old_head ≡ at first path h) × (h ≤ i) × (span ≡ linked_rows notice.counts (i - h))
+  -- its dequeues pass its enqueues by the excess at most, and those of dequeues alone by as much
   pub covered : notice.counts.deqs ≤ notice.counts.enqs + notice.counts.excess
+  pub all_excess : notice.counts.enqs ≡ 0 → notice.counts.excess ≡ notice.counts.deqs
 
--- while it stands, the shown head lies as many rows behind the dummy as it gets values, and TAIL is at the old tail or
+-- while it stands, the shown head lies as many rows behind the dummy as its batch passes, and TAIL is at the old tail or
 -- past the rows
-pub record Standing (head shown tail : ℕ) (notice : Notice) (i : ℕ) : Type 0 where
+pub record Standing (head shown tail : ℕ) (notice : Notice) (i span : ℕ) : Type 0 where
   pub from : head ≤ i
-  pub shows : shown ≡ successes_of notice.counts (i - head)
-  pub inside : head + shown ≤ i + notice.counts.enqs
-  pub tails : (tail ≡ i) ⊎ (i + notice.counts.enqs ≤ tail)
+  pub shows : shown ≡ passes notice.counts (i - head)
+  pub inside : head + shown ≤ i + span
+  pub tails : (tail ≡ i) ⊎ (i + span ≤ tail)
 
 -- the announcements, so many, among `total` rows behind the position 0
-pub record Stages (first anns : ℕ) (stage : ℕ → Stage) (ann : Option ℕ) (notice : ℕ → Notice) (old_tail : ℕ → Option Place)
+pub record Stages (first anns : ℕ) (stage : ℕ → Stage) (ann : Option ℕ) (notice : ℕ → Notice) (old_tail : ℕ → Option Place) (span : ℕ → ℕ)
     (path : ℕ → ℕ) (chained : ℕ → Bool) (cause : ℕ → ℕ) (head total shown tail : ℕ) : Type 0 where
   -- one in HEAD is installed, and its OldHead names the dummy; one that waits is in HEAD, with nothing shown behind the dummy
   pub inside : (a : ℕ) → ann ≡ Some a → a < anns
   pub installed : (a : ℕ) → ann ≡ Some a → stage a ≢ unused
   pub old_head : (a : ℕ) → ann ≡ Some a → (notice a).old_head ≡ at first path head
   pub waits : (a : ℕ) → stage a ≡ waiting → (ann ≡ Some a) × (shown ≡ 0)
-  pub bound : (a i : ℕ) → stage a ≡ decided i → Bound first path chained cause total tail (notice a) a i
-  pub standing : (a i : ℕ) → ann ≡ Some a → stage a ≡ decided i → Standing head shown tail (notice a) i
-  -- OldTail is the tail word behind which it was decided; while that isn't recorded, the announcement stands, and TAIL is there
+  pub bound : (a i : ℕ) → stage a ≡ decided i → Bound first path chained cause total tail (notice a) a i (span a)
+  pub standing : (a i : ℕ) → ann ≡ Some a → stage a ≡ decided i → Standing head shown tail (notice a) i (span a)
+  -- OldTail is the tail word behind which it was decided; while that isn't recorded, the announcement stands, rows were linked
+  -- for it, and TAIL is there
   pub unknown : (a : ℕ) → stage a ≡ waiting → old_tail a ≡ None
   pub recorded : (a i : ℕ) (q : Place) → stage a ≡ decided i → old_tail a ≡ Some q → q ≡ at first path i
-  pub unrecorded : (a i : ℕ) → stage a ≡ decided i → old_tail a ≡ None → (ann ≡ Some a) × (tail ≤ i)
+  pub unrecorded : (a i : ℕ) → stage a ≡ decided i → old_tail a ≡ None → (ann ≡ Some a) × (tail ≤ i) × (0 < span a)
   -- where TAIL lags over a Chain link, that links the rows of the decided announcement in HEAD, and no others
-  pub lags : tail < total → chained tail ≡ true → (a : ℕ) × (stage a ≡ decided tail) × (ann ≡ Some a) × (total ≤ tail + (notice a).counts.enqs)
+  pub lags : tail < total → chained tail ≡ true → (a : ℕ) × (stage a ≡ decided tail) × (ann ≡ Some a) × (total ≤ tail + span a)
 
 abbrev pub Announced : LaneSizes → Memory → Ghost → Type 0
-Announced z m g = Stages z.first (z.callers * z.callers) g.stage g.ann m.notice m.old_tail g.path g.chained g.cause g.head (g.head + g.rest) g.shown g.tail
+Announced z m g = Stages z.first (z.callers * z.callers) g.stage g.ann m.notice m.old_tail g.span g.path g.chained g.cause g.head (g.head + g.rest) g.shown g.tail
 
 -- a caller that helps its own announcement
 abbrev pub IsOwn : Back → Type 0
@@ -134,6 +138,7 @@ HelpsOwn _ = ⊥
 -- it. Where it is decided, its rows have the values of the enqueues in order.
 pub record Told (home value path : ℕ → ℕ) (stage : Stage) (notice : Notice) (c : ℕ) (k : Caller) : Type 0 where
   pub describes : Describes c (command k) notice
+  pub some : 0 < length k.ops
   pub first : home notice.first ≡ c
   pub last : home notice.last ≡ c
   pub helps : HelpsOwn k.point
@@ -143,21 +148,20 @@ abbrev pub IsTold : LaneSizes → Memory → Ghost → (ℕ → Caller) → ℕ 
 IsTold z m g callers a = g.ann ≡ Some a → Told z.home m.value g.path (g.stage a) (m.notice a) (owner_of z a) (callers (owner_of z a))
 
 -- The rows of an announcement that waits are unlinked rows of its owner c, which keeps k, joined by Single links, with
--- the values of the enqueues in order.
+-- the values of the enqueues in order; or its one row is a stopper.
 pub record Pending (z : LaneSizes) (link : ℕ → LinkWord) (value : ℕ → ℕ) (spot : ℕ → Option ℕ) (chain : ℕ → ℕ) (linearized : Bool) (notice : Notice) (c : ℕ) (k : Caller) : Type 0 where
   pub known : c < z.callers
   pub not_yet : linearized ≡ false
-  pub some : 0 < notice.counts.enqs
   pub starts : chain 0 ≡ notice.first
-  pub ends : (i : ℕ) → suc i ≡ notice.counts.enqs → chain i ≡ notice.last
-  pub homes : (i : ℕ) → i < notice.counts.enqs → z.home (chain i) ≡ c
-  pub inside : (i : ℕ) → i < notice.counts.enqs → chain i < z.rows
+  pub ends : (i : ℕ) → suc i ≡ chain_rows notice.counts → chain i ≡ notice.last
+  pub homes : (i : ℕ) → i < chain_rows notice.counts → z.home (chain i) ≡ c
+  pub inside : (i : ℕ) → i < chain_rows notice.counts → chain i < z.rows
   pub items : (i : ℕ) → i < notice.counts.enqs → IsItem z (chain i)
-  pub unlinked : (i : ℕ) → i < notice.counts.enqs → spot (chain i) ≡ None
-  pub taken : (i j : ℕ) → i < notice.counts.enqs → k.taken ≤ j → item z c j ≢ chain i
-  pub apart : (i j : ℕ) → i < j → j < notice.counts.enqs → chain i ≢ chain j
-  pub joined : (i : ℕ) → suc i < notice.counts.enqs → link (chain i) ≡ Single (chain (suc i))
-  pub last : (i : ℕ) → suc i ≡ notice.counts.enqs → link (chain i) ≡ Nil
+  pub unlinked : (i : ℕ) → i < chain_rows notice.counts → spot (chain i) ≡ None
+  pub taken : (i : ℕ) → i < chain_rows notice.counts → NotToCome z c k.taken k.stopped (chain i)
+  pub apart : (i j : ℕ) → i < j → j < chain_rows notice.counts → chain i ≢ chain j
+  pub joined : (i : ℕ) → suc i < chain_rows notice.counts → link (chain i) ≡ Single (chain (suc i))
+  pub last : (i : ℕ) → suc i ≡ chain_rows notice.counts → link (chain i) ≡ Nil
   pub values : enqueued k.ops ≡ run (λ i. value (chain i)) 0 notice.counts.enqs
 
 abbrev pub Waits : LaneSizes → Memory → Ghost → (ℕ → Caller) → ℕ → Type 0
@@ -185,7 +189,7 @@ InOrder z m h g = Ordered z m.head m.tail m.link (length (operations h)) g.path 
 pub record OfCaller (z : LaneSizes) (w : World) (c : ℕ) (k : Caller) : Type 0 where
   pub unmade : Unmade z w.ghost.stage c k
   pub own_groups : OwnGroups c w.history k (w.ghost.linearized c)
-  pub allowed : Allowed z k.mine k.ops k.taken k.made
+  pub allowed : Allowed z k.mine k.ops k.taken k.stopped k.made
   pub knows : Knows z w c k
 
 pub record Lawful (z : LaneSizes) (s : State) : Type 0 where

@@ -2,6 +2,7 @@
 pub mod Functions
 pub mod LaneSizes
 pub mod Notices
+pub mod Stopper
 pub mod Batches
 pub mod State
 pub mod Act
@@ -11,6 +12,7 @@ pub mod Help
 pub mod Enqueue
 pub mod Dequeue
 pub mod Batch
+pub mod Many
 pub mod Answer
 pub mod Step
 pub mod Coded

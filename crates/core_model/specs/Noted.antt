@@ -20,6 +20,7 @@ pub record EndsFull (n : ℕ) (old new : Caller) : Type 0 where
   pub ops : new.ops ≡ old.ops
   pub mine : new.mine ≡ old.mine
   pub taken : new.taken ≡ old.taken
+  pub stopped : new.stopped ≡ old.stopped
   pub made : new.made ≡ old.made
   pub started_at : new.started_at ≡ n
   pub ended_at : new.ended_at ≡ Some n
@@ -31,6 +32,7 @@ pub record GoesOn (old new : Caller) : Type 0 where
   pub ops : new.ops ≡ old.ops
   pub mine : new.mine ≡ old.mine
   pub taken : new.taken ≡ old.taken
+  pub stopped : new.stopped ≡ old.stopped
   pub made : new.made ≡ old.made
   pub started_at : new.started_at ≡ old.started_at
   pub ended_at : new.ended_at ≡ old.ended_at
@@ -43,6 +45,7 @@ pub record EndsDone (n c : ℕ) (old new : Caller) : Type 0 where
   pub ops : new.ops ≡ []
   pub mine : new.mine ≡ old.mine ++ own_group c old ∷ []
   pub taken : new.taken ≡ old.taken
+  pub stopped : new.stopped ≡ old.stopped
   pub made : new.made ≡ old.made
   pub started_at : new.started_at ≡ old.started_at
   pub ended_at : new.ended_at ≡ Some n

@@ -9,9 +9,12 @@ use Rattle.word_rows.specs.declared.location.Location.TheVariants.{Head, Tail, L
 use Rattle.core_model.specs.declared.point.Point.{Point}
 use Rattle.core_model.specs.declared.point.DequeuePoint.TheVariants as deq
 use Rattle.core_model.specs.declared.point.BatchPoint.TheVariants as batch
+use Rattle.core_model.specs.declared.point.ManyPoint.TheVariants as many
 use Rattle.core_model.specs.declared.point.Point.TheVariants as point
 use Rattle.core_model.specs.declared.point.EnqueuePoint.TheVariants as enq
 use Rattle.core_model.specs.declared.point.HelpPoint.TheVariants as help
+use Rattle.core_model.specs.Stopper.{linked_rows}
+use Rattle.core_model.specs.Help.{before_it}
 
 -- a word of a lane with so many rows and announcements
 abbrev pub IsWord : ℕ → ℕ → Location → Type 0
@@ -32,8 +35,10 @@ CountsFit (point.Enqueue x (enq.PassTail p n)) = p.count + 1 < 2 ^ 44
 CountsFit (point.Enqueue x (enq.MoveTail p n)) = p.count + 1 < 2 ^ 44
 CountsFit (point.Dequeue (deq.PassTail p n)) = p.count + 1 < 2 ^ 44
 CountsFit (point.Dequeue (deq.MoveHead p n v)) = p.count + 1 < 2 ^ 44
+CountsFit (point.Many d (many.MoveHead r)) = d.notice.old_head.count + d.notice.counts.deqs < 2 ^ 44
+CountsFit (point.Many d (many.PassTail p n)) = p.count + 1 < 2 ^ 44
 CountsFit (point.Help h (help.PassTail p n)) = p.count + 1 < 2 ^ 44
-CountsFit (point.Help h (help.MoveTailOver q)) = q.count + h.counts.enqs < 2 ^ 44
+CountsFit (point.Help h (help.MoveTailOver q)) = q.count + linked_rows h.counts (before_it h q) < 2 ^ 44
 CountsFit (point.Help h (help.MoveHead m r)) = h.old_head.count + m < 2 ^ 44
 CountsFit _ = Unit {0}
 

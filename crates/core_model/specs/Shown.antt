@@ -8,6 +8,8 @@ use Rattle.word_rows.specs.declared.link_word.LinkWord.TheVariants.{Nil, Single,
 use Rattle.excess_count.specs.Counts.{successes_of}
 use Rattle.core_model.specs.State.{Memory}
 use Rattle.core_model.specs.Act.{is_unknown}
+use Rattle.core_model.specs.Stopper.{is_stopped}
+use Rattle.core_model.specs.declared.point.Notice.{Notice}
 
 -- the row that a link names, if any
 abbrev pub linked_row : LinkWord → Option ℕ
@@ -47,12 +49,16 @@ abbrev pub decided_behind : Option Place → Place → Place
 decided_behind (Some q) tail = q
 decided_behind None tail = tail
 
--- The row behind which the queue is shown: the dummy, or, where a decided announcement stands, the row behind the dummy
--- by as many as its batch gets.
+-- The new dummy of a decided batch on n values: the stopper where that is linked, and else the row so many links behind
+-- the old dummy as the batch gets values.
+abbrev pub new_dummy : Memory → Notice → ℕ → ℕ
+new_dummy m s n = if is_stopped s.counts n then s.last else row_behind m s.old_head.row (successes_of s.counts n)
+
+-- the row behind which the queue is shown: the dummy, or, where a decided announcement stands, the new one
 abbrev pub shown_head : Memory → HeadWord → ℕ
 shown_head m (Node p) = p.row
 shown_head m (Ann a n) = if is_decided m a
-    then row_behind m (m.notice a).old_head.row (successes_of (m.notice a).counts ((decided_behind (m.old_tail a) m.tail).count - (m.notice a).old_head.count))
+    then new_dummy m (m.notice a) ((decided_behind (m.old_tail a) m.tail).count - (m.notice a).old_head.count)
     else (m.notice a).old_head.row
 
 -- the words show this queue

@@ -39,8 +39,9 @@ pub record Caller : Type 0 where
   pub ops : List Op
   -- the groups of its ended commands that answered Done
   pub mine : List Group
-  -- how many rows it took, and how many batches of two operations or more it started
+  -- how many item rows and how many stoppers it took, and how many batches of two operations or more it started
   pub taken : ℕ
+  pub stopped : ℕ
   pub made : ℕ
   -- the values that it has read for the answers of its batch
   pub values : List ℕ
@@ -56,11 +57,12 @@ pub record Command : Type 0 where
   pub ops : List Op
   pub mine : List Group
   pub taken : ℕ
+  pub stopped : ℕ
   pub made : ℕ
   pub started_at : ℕ
 
 abbrev pub command : Caller → Command
-command k = record { ops = k.ops; mine = k.mine; taken = k.taken; made = k.made; started_at = k.started_at }
+command k = record { ops = k.ops; mine = k.mine; taken = k.taken; stopped = k.stopped; made = k.made; started_at = k.started_at }
 
 -- the group of the running command of caller c
 abbrev pub own_group : ℕ → Caller → Group

@@ -10,11 +10,12 @@ use Rattle.bq_model.specs.Values.{enqueued}
 use Rattle.core_model.specs.declared.act.Act.{Act}
 use Rattle.core_model.specs.declared.act.Act.TheVariants.{Load}
 use Rattle.core_model.specs.declared.course.Course.{Course}
-use Rattle.core_model.specs.declared.course.Course.TheVariants.{GoesOn, Ends, Fills, Reads, ReadsMore}
+use Rattle.core_model.specs.declared.course.Course.TheVariants.{GoesOn, Ends, Fills, Reads, ReadsMore, Walks, WalksMore, Answers}
 use Rattle.core_model.specs.declared.point.Point.{Point}
 use Rattle.core_model.specs.declared.point.Point.TheVariants.{Idle}
 use Rattle.core_model.specs.declared.point.DequeuePoint.TheVariants as deq
 use Rattle.core_model.specs.declared.point.BatchPoint.TheVariants as batch
+use Rattle.core_model.specs.declared.point.ManyPoint.TheVariants as many
 use Rattle.core_model.specs.declared.point.AnswerPoint.TheVariants as answer
 use Rattle.core_model.specs.declared.point.Point.TheVariants as point
 use Rattle.core_model.specs.declared.point.EnqueuePoint.TheVariants as enq
@@ -24,13 +25,14 @@ use Rattle.core_model.specs.Functions.{put}
 use Rattle.core_model.specs.LaneSizes.{LaneSizes}
 use Rattle.excess_count.specs.Pairing.{paired}
 use Rattle.core_model.specs.Batches.{owner_of}
-use Rattle.core_model.specs.State.{Caller, State, own_group, read, write, head_in, link_in}
-use Rattle.core_model.specs.Act.{is_node, is_nil, location, effect}
+use Rattle.core_model.specs.State.{Caller, State, own_group, read, write, head_in, link_in, old_tail_in}
+use Rattle.core_model.specs.Act.{is_node, is_nil, location, effect, is_unknown}
 use Rattle.core_model.specs.Help.{help_of, before_it}
 use Rattle.core_model.specs.Help as helping
 use Rattle.core_model.specs.Enqueue as enqueue
 use Rattle.core_model.specs.Dequeue as dequeue
 use Rattle.core_model.specs.Batch as batching
+use Rattle.core_model.specs.Many as dequeuing
 use Rattle.core_model.specs.Answer as answering
 
 abbrev pub act : Point → Act
@@ -38,6 +40,7 @@ act Idle = Load Head
 act (point.Enqueue i p) = enqueue.act i p
 act (point.Dequeue p) = dequeue.act p
 act (point.Batch d p) = batching.act d p
+act (point.Many d p) = dequeuing.act d p
 act (point.Answer p) = answering.act p
 act (point.Help h p) = helping.act h p
 
@@ -53,12 +56,16 @@ abbrev pub linearizes : Point → Content → Bool
 linearizes (point.Enqueue i (enq.LinkSingle p)) x = is_nil (link_in x)
 linearizes (point.Dequeue (deq.LoadLink p)) x = is_nil (link_in x)
 linearizes (point.Dequeue (deq.MoveHead p n v)) x = is_node (head_in x) p
+linearizes (point.Many d many.LoadDummy) x = is_nil (link_in x)
+linearizes (point.Many d (many.MoveHead r)) x = is_node (head_in x) d.notice.old_head
 linearizes (point.Help h (help.LinkChain p)) x = is_nil (link_in x)
+linearizes (point.Help h (help.Decide p)) x = is_unknown (old_tail_in x)
 linearizes _ x = false
 
 -- whose group the step of caller c adds: its own, or that of the announcement's owner
 abbrev pub group_owner : LaneSizes → ℕ → Point → ℕ
 group_owner z c (point.Help h (help.LinkChain p)) = owner_of z h.ann
+group_owner z c (point.Help h (help.Decide p)) = owner_of z h.ann
 group_owner z c _ = c
 
 -- the group that the step of caller c adds, if any
@@ -93,6 +100,7 @@ course Idle x = GoesOn Idle
 course (point.Enqueue i p) x = enqueue.course i p x
 course (point.Dequeue p) x = dequeue.course p x
 course (point.Batch d p) x = batching.course d p x
+course (point.Many d p) x = dequeuing.course d p x
 course (point.Answer p) x = answering.course p x
 course (point.Help h p) x = helping.course h p x
 
@@ -103,6 +111,9 @@ followed n c k (Ends answer) = ended n c k (answer ∷ [])
 followed n c k (Fills d i r) = stepped k (point.Batch d (batch.StoreValue i r (get_or (enqueued k.ops) i 0)))
 followed n c k (Reads m r l) = reads_on n c k m r l []
 followed n c k (ReadsMore m r l v) = reads_on n c k m r l (k.values ++ v ∷ [])
+followed n c k (Walks t) = stepped_with k t []
+followed n c k (WalksMore t v) = stepped_with k t (k.values ++ v ∷ [])
+followed n c k (Answers m) = ended n c k (paired k.ops m k.values)
 
 -- what it keeps after the step at the point t that found x
 abbrev pub after : ℕ → ℕ → Caller → Point → Content → Caller

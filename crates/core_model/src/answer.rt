@@ -3,9 +3,9 @@ ghost use Rattle.std.specs.Prelude.{◌≡◌};
 ghost use Rattle.core_model.specs.Answer.{act, after_old_tail, after_link, course, kind_of};
 
 use crate::act::Act;
+use crate::count::{before_it, gets};
 use crate::course::Course;
 use crate::found::{link_in, old_tail_in, value_in};
-use crate::help::gets;
 use crate::kind::StepKind;
 use crate::point::{AnswerPoint, Help, Point};
 use word_rows::{AnnField, Content, LinkWord, Location, Place};
@@ -17,7 +17,7 @@ fn after_old_tail(help: Help, old_tail: Option<Place>) -> Course
     match old_tail {
         None => Course::GoesOn(Point::Answer(AnswerPoint::LoadOldTail(help))),
         Some(known) => {
-            let queued = known.count.saturating_sub(help.old_head.count);
+            let queued = before_it(help, known);
             Course::Reads {
                 queued,
                 row: help.old_head.row,

@@ -1,15 +1,15 @@
 // A batch of several operations, until its announcement is installed: its owner stores the values and the links of its
 // rows and the fields of its announcement.
 ghost use Rattle.std.specs.Prelude.{◌≡◌};
-ghost use Rattle.core_model.specs.Batch.{act, after_value, after_chain, after_field, after_head, course, kind_of};
+ghost use Rattle.core_model.specs.Batch.{act, after_value, after_chain, after_field, after_head, retry, course, kind_of};
 ghost use Rattle.core_model.specs.Ranges.{RowsFit};
 
 use crate::act::Act;
 use crate::course::Course;
-use crate::found::{head_in, is_node};
+use crate::found::head_in;
 use crate::help::help_of;
 use crate::kind::StepKind;
-use crate::point::{Back, BatchPoint, Draft, HelpPoint, Notice, Point};
+use crate::point::{Back, BatchPoint, Draft, HelpPoint, ManyPoint, Notice, Point};
 use word_rows::{AnnField, Content, HeadWord, LinkWord, Location};
 
 // It has filled this row, that of this number.
@@ -94,6 +94,17 @@ fn after_head(draft: Draft, head: HeadWord) -> Point
     }
 }
 
+// Another head word was there at the install.
+fn retry(draft: Draft) -> Point
+    ensures { result ≡ retry draft }
+{
+    if draft.notice.counts.enqs == 0 {
+        Point::Many(draft, ManyPoint::LoadHead)
+    } else {
+        Point::Batch(draft, BatchPoint::LoadHead)
+    }
+}
+
 impl BatchPoint {
     /// What the next step does with its word.
     pub fn act(self, draft: Draft) -> Act
@@ -142,10 +153,10 @@ impl BatchPoint {
             BatchPoint::StoreField(field) => Point::Batch(draft, after_field(field)),
             BatchPoint::LoadHead => after_head(draft, head_in(found)),
             BatchPoint::Install => {
-                if is_node(head_in(found), draft.notice.old_head) {
+                if head_in(found) == HeadWord::Node(draft.notice.old_head) {
                     Point::Help(help_of(draft.ann, Back::Own), HelpPoint::LoadOldHead)
                 } else {
-                    Point::Batch(draft, BatchPoint::LoadHead)
+                    retry(draft)
                 }
             }
         })

@@ -28,4 +28,10 @@ pub enum Course {
         left: u32,
         value: u64,
     },
+    /// It goes on, with no value read.
+    Walks(Point),
+    /// It goes on, with one more value read.
+    WalksMore(Point, u64),
+    /// A batch ends with Done and the answers that it has from so many queued values.
+    Answers(u64),
 }

@@ -5,7 +5,7 @@ ghost use Rattle.core_model.specs.Ranges.{CountsFit};
 
 use crate::act::{Act, by_one};
 use crate::course::Course;
-use crate::found::{behind, head_in, is_node, is_same_place, link_in, tail_in, value_in};
+use crate::found::{behind, head_in, link_in, tail_in, value_in};
 use crate::help::help_of;
 use crate::kind::StepKind;
 use crate::point::{Back, DequeuePoint, HelpPoint, Point};
@@ -67,20 +67,20 @@ impl DequeuePoint {
             DequeuePoint::LoadHead => return Course::GoesOn(after_head(head_in(found))),
             DequeuePoint::LoadLink(dummy) => return after_link(dummy, link_in(found)),
             DequeuePoint::MoveHead { dummy, value, .. } => {
-                if is_node(head_in(found), dummy) {
+                if head_in(found) == HeadWord::Node(dummy) {
                     return Course::Ends(Answer::Got(value));
                 }
                 DequeuePoint::LoadHead
             }
             DequeuePoint::LoadTail { dummy, row } => {
-                if is_same_place(tail_in(found), dummy) {
+                if tail_in(found) == dummy {
                     DequeuePoint::PassTail { dummy, row }
                 } else {
                     DequeuePoint::LoadValue { dummy, row }
                 }
             }
             DequeuePoint::LoadTailOver { dummy, row } => {
-                if is_same_place(tail_in(found), dummy) {
+                if tail_in(found) == dummy {
                     DequeuePoint::LoadHead
                 } else {
                     DequeuePoint::LoadValue { dummy, row }

@@ -5,7 +5,7 @@ ghost use Rattle.core_model.specs.Ranges.{CountsFit};
 
 use crate::act::{Act, by_one};
 use crate::course::Course;
-use crate::found::{head_in, is_nil, link_in, tail_in};
+use crate::found::{head_in, link_in, tail_in};
 use crate::help::help_of;
 use crate::kind::StepKind;
 use crate::point::{Back, EnqueuePoint, HelpPoint, Item, Point};
@@ -77,7 +77,7 @@ impl EnqueuePoint {
             }
             EnqueuePoint::LoadLink(tail) => Point::Enqueue(item, after_link(tail, link_in(found))),
             EnqueuePoint::LinkSingle(tail) => {
-                let point = if is_nil(link_in(found)) {
+                let point = if link_in(found) == LinkWord::Nil {
                     EnqueuePoint::MoveTail {
                         tail,
                         row: item.row,

@@ -1,7 +1,7 @@
 // What a step finds in its word.
 ghost use Rattle.std.specs.Prelude.{◌≡◌, ◌+◌, ◌<◌, ◌^◌};
 ghost use Rattle.core_model.specs.State.{head_in, tail_in, link_in, value_in, old_tail_in};
-ghost use Rattle.core_model.specs.Act.{same_place, is_node, is_ann, is_unknown, is_nil, behind, far_behind};
+ghost use Rattle.core_model.specs.Act.{behind, far_behind};
 
 use word_rows::{Content, HeadWord, LinkWord, Place};
 
@@ -52,53 +52,6 @@ pub fn old_tail_in(found: Content) -> Option<Place>
     match found {
         Content::OfOldTail(tail) => tail,
         _ => None,
-    }
-}
-
-/// Whether two places are the same.
-pub fn is_same_place(a: Place, b: Place) -> bool
-    ensures { result ≡ same_place a b }
-{
-    a.row == b.row && a.count == b.count
-}
-
-/// Whether HEAD names this place as its dummy.
-pub fn is_node(head: HeadWord, place: Place) -> bool
-    ensures { result ≡ is_node head place }
-{
-    match head {
-        HeadWord::Node(dummy) => is_same_place(dummy, place),
-        HeadWord::Ann { .. } => false,
-    }
-}
-
-/// Whether HEAD names this announcement, with this count.
-pub fn is_ann(head: HeadWord, number: u32, at: u64) -> bool
-    ensures { result ≡ is_ann head number at }
-{
-    match head {
-        HeadWord::Node(_) => false,
-        HeadWord::Ann { ann, count } => ann == number && count == at,
-    }
-}
-
-/// Whether an OldTail isn't known.
-pub fn is_unknown(tail: Option<Place>) -> bool
-    ensures { result ≡ is_unknown tail }
-{
-    match tail {
-        None => true,
-        Some(_) => false,
-    }
-}
-
-/// Whether nothing is linked behind the row.
-pub fn is_nil(link: LinkWord) -> bool
-    ensures { result ≡ is_nil link }
-{
-    match link {
-        LinkWord::Nil => true,
-        _ => false,
     }
 }
 

@@ -1,16 +1,17 @@
-// A help: it reads the announcement in HEAD, links its chain, records its old tail, and moves TAIL and HEAD over it.
-ghost use Rattle.std.specs.Prelude.{◌≡◌};
-ghost use Rattle.excess_count.specs.Counts.{successes_of};
-ghost use Rattle.core_model.specs.Help.{help_of, act, after_old_tail, after_link, after_record, walk_on, before_it, walk, back_point, after_walk, course, kind_of};
+// A help: it reads the announcement in HEAD, links its chain or its stopper where it has one to link, records its old tail,
+// and moves TAIL and HEAD.
+ghost use Rattle.std.specs.Prelude.{◌≡◌, Some, None};
+ghost use Rattle.core_model.specs.Help.{help_of, act, at_old_tail, after_old_tail, after_link, after_record, walk_on, walk_from, walk, back_point, after_walk, course, kind_of};
 ghost use Rattle.core_model.specs.Ranges.{CountsFit};
 
 use crate::act::{Act, by_one};
+use crate::count::{before_it, gets, has_enough, is_stopped, linked_rows};
 use crate::course::Course;
-use crate::found::{far_behind, is_same_place, link_in, old_tail_in, tail_in};
+use crate::found::{far_behind, link_in, old_tail_in, tail_in};
 use crate::kind::StepKind;
 use crate::notice::{chain_end_in, counts_in, dummy_in};
 use crate::point::{
-    AnswerPoint, Back, BatchPoint, DequeuePoint, EnqueuePoint, Help, HelpPoint, Point,
+    AnswerPoint, Back, BatchPoint, DequeuePoint, EnqueuePoint, Help, HelpPoint, ManyPoint, Point,
 };
 use excess_count::Counts;
 use word_rows::{AnnField, Content, HeadWord, LinkWord, Location, Place};
@@ -39,16 +40,6 @@ fn field_of(ann: u32, field: AnnField) -> Act
     Act::Load(Location::AnnWord { ann, field })
 }
 
-// It found this in OldTail.
-fn after_old_tail(tail: Place, old_tail: Option<Place>) -> HelpPoint
-    ensures { result ≡ after_old_tail tail old_tail }
-{
-    match old_tail {
-        None => HelpPoint::LoadLink(tail),
-        Some(known) => HelpPoint::LoadTailOver(known),
-    }
-}
-
 // It found this behind the row that TAIL names.
 fn after_link(help: Help, tail: Place, link: LinkWord) -> HelpPoint
     ensures { result ≡ after_link help tail link }
@@ -67,30 +58,15 @@ fn after_link(help: Help, tail: Place, link: LinkWord) -> HelpPoint
     }
 }
 
-// It wanted to record this tail, and found this in OldTail.
-fn after_record(tail: Place, old_tail: Option<Place>) -> HelpPoint
-    ensures { result ≡ after_record tail old_tail }
-{
-    match old_tail {
-        None => HelpPoint::LoadTailOver(tail),
-        Some(known) => HelpPoint::LoadTailOver(known),
-    }
-}
-
-/// How many values a batch with these counts gets, where so many are queued.
-pub fn gets(counts: Counts, queued: u64) -> u32
-    ensures { result ≡ successes_of counts queued }
-{
-    let missing = u64::from(counts.excess).saturating_sub(queued);
-    u64::from(counts.deqs).saturating_sub(missing) as u32
-}
-
 // The batch gets so many values, and it has come to the row, with so many links to go.
 fn walk_on(values: u32, row: u32, left: u32) -> HelpPoint
     ensures { result ≡ walk_on values row left }
 {
     if left == 0 {
-        HelpPoint::MoveHead { values, row }
+        HelpPoint::MoveHead {
+            passed: values,
+            row,
+        }
     } else {
         HelpPoint::LoadWalk {
             values,
@@ -101,16 +77,80 @@ fn walk_on(values: u32, row: u32, left: u32) -> HelpPoint
 }
 
 // It begins its walk to the new dummy, from the old one or from the old tail.
-fn walk(help: Help, old_tail: Place) -> HelpPoint
-    ensures { result ≡ walk help old_tail }
+fn walk_from(help: Help, old_tail: Place, queued: u64, values: u32) -> HelpPoint
+    ensures { result ≡ walk_from help old_tail queued values }
 {
-    let queued = old_tail.count.saturating_sub(help.old_head.count);
-    let values = gets(help.counts, queued);
     if u64::from(values) < queued {
         walk_on(values, help.old_head.row, values)
     } else {
         walk_on(values, old_tail.row, values - queued as u32)
     }
+}
+
+// A stopper is the new dummy at once.
+fn walk(help: Help, old_tail: Place) -> HelpPoint
+    ensures { result ≡ walk help old_tail }
+{
+    let queued = before_it(help, old_tail);
+    if is_stopped(help.counts, queued) {
+        HelpPoint::MoveHead {
+            passed: queued as u32 + 1,
+            row: help.last,
+        }
+    } else {
+        walk_from(help, old_tail, queued, gets(help.counts, queued))
+    }
+}
+
+// It knows OldTail.
+fn at_old_tail(help: Help, old_tail: Place) -> HelpPoint
+    ensures { result ≡ at_old_tail help old_tail }
+{
+    if 0 < linked_rows(help.counts, before_it(help, old_tail)) {
+        HelpPoint::LoadTailOver(old_tail)
+    } else {
+        walk(help, old_tail)
+    }
+}
+
+// It found this in OldTail.
+fn after_old_tail(help: Help, tail: Place, old_tail: Option<Place>) -> HelpPoint
+    ensures { result ≡ after_old_tail help tail old_tail }
+{
+    match old_tail {
+        None => {
+            if has_enough(help, tail) {
+                HelpPoint::Decide(tail)
+            } else {
+                HelpPoint::LoadLink(tail)
+            }
+        }
+        Some(known) => at_old_tail(help, known),
+    }
+}
+
+// It wanted to record this tail, and found this in OldTail.
+fn after_record(help: Help, tail: Place, old_tail: Option<Place>) -> HelpPoint
+    ensures { result ≡ after_record help tail old_tail }
+{
+    match old_tail {
+        None => at_old_tail(help, tail),
+        Some(known) => at_old_tail(help, known),
+    }
+}
+
+// The exchange of OldTail of an announcement, which isn't known yet, to this tail.
+fn record_of(ann: u32, tail: Place) -> Act
+    ensures { result ≡ Act.Exchange (Location.AnnWord ann AnnField.OldTail) (Content.OfOldTail None) (Content.OfOldTail (Some tail)) }
+{
+    Act::Exchange(
+        Location::AnnWord {
+            ann,
+            field: AnnField::OldTail,
+        },
+        Content::OfOldTail(None),
+        Content::OfOldTail(Some(tail)),
+    )
 }
 
 // Where the caller goes on after it.
@@ -122,6 +162,7 @@ fn back_point(help: Help, back: Back) -> Point
         Back::Enqueue(item) => Point::Enqueue(item, EnqueuePoint::LoadTail),
         Back::Dequeue => Point::Dequeue(DequeuePoint::LoadHead),
         Back::Batch(draft) => Point::Batch(draft, BatchPoint::LoadHead),
+        Back::Many(draft) => Point::Many(draft, ManyPoint::LoadHead),
     }
 }
 
@@ -158,26 +199,22 @@ impl HelpPoint {
                 Content::OfLink(LinkWord::Chain(help.first)),
             ),
             HelpPoint::PassTail { tail, row } => by_one(tail, row),
-            HelpPoint::RecordTail(tail) => Act::Exchange(
-                Location::AnnWord {
-                    ann: help.ann,
-                    field: AnnField::OldTail,
-                },
-                Content::OfOldTail(None),
-                Content::OfOldTail(Some(tail)),
-            ),
-            HelpPoint::MoveTailOver(tail) => Act::Exchange(
-                Location::Tail,
-                Content::OfTail(tail),
-                Content::OfTail(far_behind(tail, help.last, help.counts.enqs)),
-            ),
-            HelpPoint::MoveHead { values, row } => Act::Exchange(
+            HelpPoint::RecordTail(tail) | HelpPoint::Decide(tail) => record_of(help.ann, tail),
+            HelpPoint::MoveTailOver(tail) => {
+                let rows = linked_rows(help.counts, before_it(help, tail));
+                Act::Exchange(
+                    Location::Tail,
+                    Content::OfTail(tail),
+                    Content::OfTail(far_behind(tail, help.last, rows)),
+                )
+            }
+            HelpPoint::MoveHead { passed, row } => Act::Exchange(
                 Location::Head,
                 Content::OfHead(HeadWord::Ann {
                     ann: help.ann,
                     count: help.old_head.count,
                 }),
-                Content::OfHead(HeadWord::Node(far_behind(help.old_head, row, values))),
+                Content::OfHead(HeadWord::Node(far_behind(help.old_head, row, passed))),
             ),
         }
     }
@@ -208,12 +245,14 @@ impl HelpPoint {
                 return Course::GoesOn(Point::Help(Help { counts, ..help }, HelpPoint::LoadTail));
             }
             HelpPoint::LoadTail => HelpPoint::LoadOldTail(tail_in(found)),
-            HelpPoint::LoadOldTail(tail) => after_old_tail(tail, old_tail_in(found)),
+            HelpPoint::LoadOldTail(tail) => after_old_tail(help, tail, old_tail_in(found)),
             HelpPoint::LoadLink(tail) => after_link(help, tail, link_in(found)),
             HelpPoint::LinkChain(_) | HelpPoint::PassTail { .. } => HelpPoint::LoadTail,
-            HelpPoint::RecordTail(tail) => after_record(tail, old_tail_in(found)),
+            HelpPoint::RecordTail(tail) | HelpPoint::Decide(tail) => {
+                after_record(help, tail, old_tail_in(found))
+            }
             HelpPoint::LoadTailOver(old_tail) => {
-                if is_same_place(tail_in(found), old_tail) {
+                if tail_in(found) == old_tail {
                     HelpPoint::MoveTailOver(old_tail)
                 } else {
                     walk(help, old_tail)
@@ -225,8 +264,8 @@ impl HelpPoint {
     }
 
     /// The kind of the next step.
-    pub fn kind(self) -> StepKind
-        ensures { result ≡ kind_of self }
+    pub fn kind(self, help: Help) -> StepKind
+        ensures { result ≡ kind_of help self }
     {
         match self {
             HelpPoint::LoadOldHead | HelpPoint::LoadFirst | HelpPoint::LoadLast => {
@@ -235,7 +274,14 @@ impl HelpPoint {
             HelpPoint::LoadCounts | HelpPoint::LoadOldTail(_) => StepKind::LoadAnn,
             HelpPoint::LoadTail | HelpPoint::LoadTailOver(_) => StepKind::LoadTail,
             HelpPoint::LoadLink(_) | HelpPoint::LoadWalk { .. } => StepKind::LoadLink,
-            HelpPoint::LinkChain(_) => StepKind::LinkChain,
+            HelpPoint::LinkChain(_) => {
+                if help.counts.enqs == 0 {
+                    StepKind::LinkStopper
+                } else {
+                    StepKind::LinkChain
+                }
+            }
+            HelpPoint::Decide(_) => StepKind::Decide,
             HelpPoint::PassTail { .. } => StepKind::MoveTail,
             HelpPoint::RecordTail(_) => StepKind::RecordTail,
             HelpPoint::MoveTailOver(_) => StepKind::MoveTailOver,

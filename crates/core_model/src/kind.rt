@@ -24,6 +24,8 @@ pub enum StepKind {
     MoveTail,
     /// Exchanges HEAD by one row.
     MoveHead,
+    /// Exchanges HEAD over all rows of a walk.
+    MoveHeadMany,
     /// Stores the LINK of a row inside an own chain.
     StoreChain,
     /// Stores a field of an own announcement.
@@ -34,9 +36,13 @@ pub enum StepKind {
     LoadAnn,
     /// Exchanges a LINK from Nil to Chain of an announcement's first row.
     LinkChain,
-    /// Exchanges OldTail of an announcement to the tail word behind which its chain is linked.
+    /// Exchanges a LINK from Nil to Chain of an announcement's stopper.
+    LinkStopper,
+    /// Exchanges OldTail of an announcement to a tail word before which its dequeues find enough values.
+    Decide,
+    /// Exchanges OldTail of an announcement to the tail word behind which its chain or its stopper is linked.
     RecordTail,
-    /// Exchanges TAIL from the old tail of an announcement to the last row of its chain.
+    /// Exchanges TAIL from the old tail of an announcement to the last row of its chain, or its stopper.
     MoveTailOver,
     /// Exchanges HEAD from an announcement to the new dummy.
     MoveHeadAnn,
@@ -52,7 +58,8 @@ impl Point {
             Point::Enqueue(_, point) => point.kind(),
             Point::Dequeue(point) => point.kind(),
             Point::Batch(_, point) => point.kind(),
-            Point::Help(_, point) => point.kind(),
+            Point::Many(_, point) => point.kind(),
+            Point::Help(help, point) => point.kind(help),
             Point::Answer(point) => point.kind(),
         })
     }

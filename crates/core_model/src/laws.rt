@@ -1,5 +1,5 @@
 // Laws of the pure machine. Each is proved of every lane and every state; the functions do nothing.
-ghost use Rattle.std.specs.Prelude.{◌≡◌, ◌≢◌, ◌↔◌, ◌*◌, ◌<◌, ◌^◌, ◌++◌, ℕ, List, [], ◌∷◌, length, get_or, ◌≤◌, Some};
+ghost use Rattle.std.specs.Prelude.{◌≡◌, ◌≢◌, ◌↔◌, ◌*◌, ◌<◌, ◌^◌, ◌++◌, ℕ, List, [], ◌∷◌, length, get_or, ◌≤◌, Some, None};
 ghost use Rattle.bq_model.specs.declared.group.Group.{Group};
 ghost use Rattle.bq_model.specs.declared.op.Op.{Op};
 ghost use Rattle.bq_model.specs.declared.shape.Shape.{Shape};
@@ -120,12 +120,14 @@ pub fn words_show_the_last_queue()
 {}
 
 /// An announcement that stands in HEAD says what the running command of its owner is, and where its dummy, its rows and its
-/// old tail are. The step that links its chain adds
-/// the group of that command to the history, whichever caller makes it.
+/// old tail are. The step that links its chain or its stopper adds the group of that command to the history, whichever
+/// caller makes it, and so does the step that decides it without a link.
 pub fn announced_batch_is_its_owners()
     ensures told { (z : LaneSizes) (s : State) (a n : ℕ) → Lawful z s → s.memory.head ≡ Ann a n
         → Describes (owner_of z a) (command (s.callers (owner_of z a))) (s.memory.notice a) }
     ensures says { (z : LaneSizes) (s : State) (a n : ℕ) → Lawful z s → s.memory.head ≡ Ann a n → Says z s.memory a n }
     ensures added { (z : LaneSizes) (s : State) (c : ℕ) (h : Help) (p : Place) → (s.callers c).point ≡ Point.Help h (HelpPoint.LinkChain p) → s.memory.link p.row ≡ Nil
+        → (next z s c).history ≡ s.history ++ own_group (owner_of z h.ann) (s.callers (owner_of z h.ann)) ∷ [] }
+    ensures decided { (z : LaneSizes) (s : State) (c : ℕ) (h : Help) (p : Place) → (s.callers c).point ≡ Point.Help h (HelpPoint.Decide p) → s.memory.old_tail h.ann ≡ None
         → (next z s c).history ≡ s.history ++ own_group (owner_of z h.ann) (s.callers (owner_of z h.ann)) ∷ [] }
 {}

@@ -1,9 +1,9 @@
 //! One lane as a pure machine: its words, its history, its callers, and what each atomic step of a caller does.
 //!
-//! `point` has where a caller stands in its call, nested by call. Each call has a file, `enqueue`, `dequeue`, `batch`, `help` and
-//! `answer`, with the rows of two tables: what the step at a point does with its word (`act`), and where the caller is after
+//! `point` has where a caller stands in its call, nested by call. Each call has a file, `enqueue`, `dequeue`, `batch`, `many`,
+//! `help` and `answer`, with the rows of two tables: what the step at a point does with its word (`act`), and where the caller is after
 //! it by what the step found (`step`). `kind` names the kinds of step, `found` reads what a step found, `course` has what
-//! becomes of the command, `notice` what an announcement says, and `start` the first step of a command. The laws in `laws` say that each event keeps the lane
+//! becomes of the command, `count` what a batch gets and links, `notice` what an announcement says, and `start` the first step of a command. The laws in `laws` say that each event keeps the lane
 //! lawful, and what a lawful lane promises.
 //!
 //! `specs/` has one notion a file: `State` and `Step` say what the machine is, `Start` how a command begins, `Batches` how a
@@ -14,6 +14,7 @@
 mod act;
 mod answer;
 mod batch;
+mod count;
 mod course;
 mod dequeue;
 mod enqueue;
@@ -21,6 +22,7 @@ mod found;
 mod help;
 mod kind;
 mod laws;
+mod many;
 mod notice;
 mod point;
 mod start;
@@ -28,10 +30,7 @@ mod step;
 
 pub use act::Act;
 pub use course::Course;
-pub use found::{
-    head_in, is_ann, is_nil, is_node, is_same_place, is_unknown, link_in, old_tail_in, tail_in,
-    value_in,
-};
+pub use found::{head_in, link_in, old_tail_in, tail_in, value_in};
 pub use kind::StepKind;
 pub use laws::{
     a_lane_opens_as_its_table, a_step_is_its_callers_alone, a_step_stores_into_one_word,
@@ -41,6 +40,6 @@ pub use laws::{
 };
 pub use point::{
     AnswerPoint, Back, BatchPoint, CallEnd, DequeuePoint, Draft, EnqueuePoint, Help, HelpPoint,
-    Item, Notice, Point,
+    Item, ManyPoint, Notice, Point,
 };
-pub use start::{Stock, anns_taken};
+pub use start::{Stock, anns_taken, stoppers_taken};

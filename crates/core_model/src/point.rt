@@ -15,9 +15,9 @@ pub struct Item {
 pub struct Notice {
     /// The dummy that HEAD named before the announcement.
     pub old_head: Place,
-    /// The first row of its chain.
+    /// The first row of its chain; the stopper of dequeues alone.
     pub first: u32,
-    /// The last row of its chain.
+    /// The last row of its chain; the stopper of dequeues alone.
     pub last: u32,
     /// How many operations there are.
     pub counts: Counts,
@@ -51,6 +51,8 @@ pub enum Back {
     Dequeue,
     /// With a batch of its own, which it has yet to install.
     Batch(Draft),
+    /// With a batch of dequeues alone, which begins its walk again.
+    Many(Draft),
 }
 
 /// An announcement that a caller helps, as far as it has read it.
@@ -100,20 +102,22 @@ pub enum HelpPoint {
     LoadOldTail(Place),
     /// It loads the link of the tail's row.
     LoadLink(Place),
-    /// It links the chain behind the tail's row.
+    /// It links the chain or the stopper behind the tail's row.
     LinkChain(Place),
+    /// It records a tail before which dequeues alone find enough values, so that nothing is linked.
+    Decide(Place),
     /// It moves the tail over one row, and begins again.
     PassTail { tail: Place, row: u32 },
     /// It records the tail behind which the chain is linked.
     RecordTail(Place),
-    /// It knows OldTail, and loads the tail.
+    /// It knows OldTail, behind which rows were linked, and loads the tail.
     LoadTailOver(Place),
-    /// It moves the tail over the chain.
+    /// It moves the tail over the chain or the stopper.
     MoveTailOver(Place),
     /// The batch gets so many values; it loads the link of the row, with so many links to go.
     LoadWalk { values: u32, row: u32, left: u32 },
-    /// The batch gets so many values; it moves the head to the row.
-    MoveHead { values: u32, row: u32 },
+    /// It moves the head over so many rows, to this one.
+    MoveHead { passed: u32, row: u32 },
 }
 
 /// Where a dequeue is: the step that comes next.
@@ -150,6 +154,32 @@ pub enum BatchPoint {
     Install,
 }
 
+/// Where a batch of several dequeues and no enqueue is, until its announcement is installed: the step that comes next. Its
+/// draft has the dummy from which it walks.
+#[derive(Clone, Copy, Debug, PartialEq, Eq, Hash)]
+pub enum ManyPoint {
+    /// It loads the head.
+    LoadHead,
+    /// It loads the link of the dummy.
+    LoadDummy,
+    /// It loads the link of the last row whose value it has read, with so many values to go.
+    LoadLink { row: u32, left: u32 },
+    /// It loads the value of the next row, with so many values to go behind it.
+    LoadValue { row: u32, left: u32 },
+    /// It has read all values, up to this row, and loads the tail.
+    LoadTail { row: u32 },
+    /// It moves the head to that row.
+    MoveHead { row: u32 },
+    /// The tail lies before that row; it loads the link of the tail's row.
+    LoadBehind(Place),
+    /// It moves the tail over one row, and begins again.
+    PassTail { tail: Place, row: u32 },
+    /// It met a chain, and loads the head.
+    LoadChained,
+    /// It found too few values, and stores a field of its announcement.
+    StoreField(AnnField),
+}
+
 /// Where the owner of a finished batch is: the step that comes next.
 #[derive(Clone, Copy, Debug, PartialEq, Eq, Hash)]
 pub enum AnswerPoint {
@@ -172,6 +202,8 @@ pub enum Point {
     Dequeue(DequeuePoint),
     /// A batch that its owner has yet to install.
     Batch(Draft, BatchPoint),
+    /// Several dequeues and no enqueue.
+    Many(Draft, ManyPoint),
     /// A help.
     Help(Help, HelpPoint),
     /// The answers of a batch.

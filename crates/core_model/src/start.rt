@@ -1,19 +1,27 @@
 // The first step of a command.
-ghost use Rattle.std.specs.Prelude.{◌≡◌, ◌+◌, ◌<◌, ◌≤◌, ◌^◌, List, [], ◌∷◌, length};
+ghost use Rattle.std.specs.Prelude.{◌≡◌, ◌==◌, ◌+◌, ◌<◌, ◌≤◌, ◌^◌, List, [], ◌∷◌, length};
 ghost use Rattle.bq_model.specs.declared.op.Op.{Op};
 ghost use Rattle.bq_model.specs.Values.{enqueued};
 ghost use Rattle.excess_count.specs.Counts.{counts_of};
 ghost use Rattle.excess_count.specs.Excess.{enqueue_count};
-ghost use Rattle.word_rows.specs.Sizes.{items_of};
+ghost use Rattle.word_rows.specs.Sizes.{items_of, stoppers_of, rows_of};
 ghost use Rattle.core_model.specs.Batches.{notice_of};
 ghost use Rattle.core_model.specs.LaneSizes.{lane_sizes};
-ghost use Rattle.core_model.specs.Start.{IsCommand, anns_taken, draft_of, first_point};
+ghost use Rattle.core_model.specs.Start.{IsCommand, anns_taken, stoppers_taken, chain_start, draft_of, first_point};
 ghost use Rattle.core_model.specs.State.{Caller};
 
-use crate::point::{BatchPoint, DequeuePoint, Draft, EnqueuePoint, Item, Notice, Point};
+use crate::point::{BatchPoint, DequeuePoint, Draft, EnqueuePoint, Item, ManyPoint, Notice, Point};
 use bq_model::{Op, Shape};
 use excess_count::Counts;
-use word_rows::{BatchNumber, Place, item_row, order_word, own_ann};
+use word_rows::{BatchNumber, Place, item_row, order_word, own_ann, stopper_row};
+
+/// How many stoppers a command of so many operations takes, so many of them enqueues.
+pub fn stoppers_taken(operations: usize, enqs: u32) -> u32
+    ensures taken { (ops : List Op) → operations ≡ length ops → enqs ≡ enqueue_count ops → result ≡ stoppers_taken ops }
+    ensures no_more { (ops : List Op) → operations ≡ length ops → result ≤ anns_taken ops }
+{
+    if 1 < operations && enqs == 0 { 1 } else { 0 }
+}
 
 /// How many announcements a command of so many operations takes.
 pub fn anns_taken(operations: usize) -> u32
@@ -25,15 +33,19 @@ pub fn anns_taken(operations: usize) -> u32
 
 // What caller says of the operations, as the batch of this number, whose rows are those from the first on.
 fn notice(caller: u32, batch: u64, first: u32, ops: &[Op], counts: Counts) -> Notice
-    requires some { 0 < counts.enqs }
     requires fits { first + counts.enqs < 2 ^ 32 }
     requires counts { counts ≡ counts_of ops.now }
     ensures { result ≡ notice_of caller batch first ops.now }
 {
+    let last = if counts.enqs == 0 {
+        first
+    } else {
+        first + counts.enqs - 1
+    };
     Notice {
         old_head: Place { row: 0, count: 0 },
         first,
-        last: first + counts.enqs - 1,
+        last,
         counts,
         number: BatchNumber { batch, caller },
         order0: order_word(ops, 0),
@@ -46,8 +58,10 @@ fn notice(caller: u32, batch: u64, first: u32, ops: &[Op], counts: Counts) -> No
 /// What a caller took of its stock for its earlier commands.
 #[derive(Clone, Copy)]
 pub struct Stock {
-    /// So many of its rows.
+    /// So many of its item rows.
     pub taken: u32,
+    /// So many of its stoppers.
+    pub stopped: u32,
     /// So many of its announcements.
     pub made: u32,
     /// The number of the group that it makes next.
@@ -70,19 +84,66 @@ impl Stock {
         }
     }
 
+    // The first row of a batch's chain: an item row, or a stopper where it has no enqueue.
+    fn chain_start(self, shape: &Shape, caller: u32, enqs: u32) -> u32
+        requires known { caller < shape.now.callers }
+        requires rows { self.taken + enqs ≤ items_of shape.now }
+        requires stopper { self.stopped < stoppers_of shape.now }
+        ensures start { (k : Caller) → k.taken ≡ self.taken → k.stopped ≡ self.stopped → result ≡ chain_start (lane_sizes shape.now) caller k (enqs == 0) }
+        ensures is_a_row { result < rows_of shape.now }
+        ensures fits { result + enqs < 2 ^ 32 }
+    {
+        if enqs == 0 {
+            stopper_row(shape, caller, self.stopped)
+        } else {
+            item_row(shape, caller, self.taken)
+        }
+    }
+
     // What the announcement of a batch is to say.
     fn draft(self, shape: &Shape, caller: u32, ops: &[Op], counts: Counts) -> Draft
         requires known { caller < shape.now.callers }
         requires rows { self.taken + counts.enqs ≤ items_of shape.now }
+        requires stopper { self.stopped < stoppers_of shape.now }
         requires ann { self.made < shape.now.callers }
-        requires some { 0 < counts.enqs }
         requires counts { counts ≡ counts_of ops.now }
-        ensures { (k : Caller) → k.taken ≡ self.taken → k.made ≡ self.made → length k.mine ≡ self.batch → result ≡ draft_of (lane_sizes shape.now) caller k ops.now }
+        ensures { (k : Caller) → k.taken ≡ self.taken → k.stopped ≡ self.stopped → k.made ≡ self.made → length k.mine ≡ self.batch → result ≡ draft_of (lane_sizes shape.now) caller k ops.now }
     {
-        let first = item_row(shape, caller, self.taken);
+        let first = self.chain_start(shape, caller, counts.enqs);
         Draft {
             ann: own_ann(shape, caller, self.made),
             notice: notice(caller, self.batch, first, ops, counts),
+        }
+    }
+
+    // The first step of a command of several operations.
+    fn batch_point(
+        self,
+        shape: &Shape,
+        caller: u32,
+        ops: &[Op],
+        counts: Counts,
+        puts: &[u64],
+    ) -> Point
+        requires known { caller < shape.now.callers }
+        requires many { 1 < length ops.now }
+        requires rows { self.taken + counts.enqs ≤ items_of shape.now }
+        requires stopper { self.stopped < stoppers_of shape.now }
+        requires ann { self.made < shape.now.callers }
+        requires counts { counts ≡ counts_of ops.now }
+        requires puts { puts.now ≡ enqueued ops.now }
+        ensures { (k : Caller) → k.taken ≡ self.taken → k.stopped ≡ self.stopped → k.made ≡ self.made → length k.mine ≡ self.batch → result ≡ first_point (lane_sizes shape.now) caller k ops.now }
+    {
+        let draft = self.draft(shape, caller, ops, counts);
+        if counts.enqs == 0 {
+            Point::Many(draft, ManyPoint::LoadHead)
+        } else {
+            let first = BatchPoint::StoreValue {
+                number: 0,
+                row: draft.notice.first,
+                value: puts.first().copied().unwrap_or(0),
+            };
+            Point::Batch(draft, first)
         }
     }
 
@@ -98,21 +159,16 @@ impl Stock {
         requires known { caller < shape.now.callers }
         requires command { IsCommand ops.now }
         requires rows { self.taken + counts.enqs ≤ items_of shape.now }
+        requires stopper { self.stopped ≤ self.made }
         requires anns { self.made + anns_taken ops.now ≤ shape.now.callers }
         requires counts { counts ≡ counts_of ops.now }
         requires puts { puts.now ≡ enqueued ops.now }
-        ensures { (k : Caller) → k.taken ≡ self.taken → k.made ≡ self.made → length k.mine ≡ self.batch → result ≡ first_point (lane_sizes shape.now) caller k ops.now }
+        ensures { (k : Caller) → k.taken ≡ self.taken → k.stopped ≡ self.stopped → k.made ≡ self.made → length k.mine ≡ self.batch → result ≡ first_point (lane_sizes shape.now) caller k ops.now }
     {
         if ops.len() == 1 {
             self.plain(shape, caller, ops[0])
         } else {
-            let draft = self.draft(shape, caller, ops, counts);
-            let first = BatchPoint::StoreValue {
-                number: 0,
-                row: draft.notice.first,
-                value: puts[0],
-            };
-            Point::Batch(draft, first)
+            self.batch_point(shape, caller, ops, counts, puts)
         }
     }
 }

@@ -6,9 +6,9 @@ ghost use Rattle.core_model.specs.Ranges.{RowsFit, CountsFit};
 
 use crate::act::Act;
 use crate::course::Course;
-use crate::found::{head_in, is_nil, is_node, link_in};
-use crate::point::{DequeuePoint, EnqueuePoint, HelpPoint, Point};
-use word_rows::{Content, Location};
+use crate::found::{head_in, link_in, old_tail_in};
+use crate::point::{DequeuePoint, EnqueuePoint, HelpPoint, ManyPoint, Point};
+use word_rows::{Content, HeadWord, LinkWord, Location};
 
 impl Point {
     /// What the next step does with its word.
@@ -21,6 +21,7 @@ impl Point {
             Point::Enqueue(item, point) => point.act(item),
             Point::Dequeue(point) => point.act(),
             Point::Batch(draft, point) => point.act(draft),
+            Point::Many(draft, point) => point.act(draft),
             Point::Help(help, point) => point.act(help),
             Point::Answer(point) => point.act(),
         }
@@ -36,6 +37,7 @@ impl Point {
             Point::Enqueue(item, point) => point.course(item, found),
             Point::Dequeue(point) => point.course(found),
             Point::Batch(draft, point) => point.course(draft, found),
+            Point::Many(draft, point) => point.course(draft, found),
             Point::Help(help, point) => point.course(help, found),
             Point::Answer(point) => point.course(found),
         }
@@ -46,12 +48,17 @@ impl Point {
         ensures { result ≡ linearizes self found }
     {
         match self {
-            Point::Enqueue(_, EnqueuePoint::LinkSingle(_)) => is_nil(link_in(found)),
-            Point::Dequeue(DequeuePoint::LoadLink(_)) => is_nil(link_in(found)),
+            Point::Enqueue(_, EnqueuePoint::LinkSingle(_)) => link_in(found) == LinkWord::Nil,
+            Point::Dequeue(DequeuePoint::LoadLink(_)) => link_in(found) == LinkWord::Nil,
             Point::Dequeue(DequeuePoint::MoveHead { dummy, .. }) => {
-                is_node(head_in(found), dummy)
+                head_in(found) == HeadWord::Node(dummy)
             }
-            Point::Help(_, HelpPoint::LinkChain(_)) => is_nil(link_in(found)),
+            Point::Many(_, ManyPoint::LoadDummy) => link_in(found) == LinkWord::Nil,
+            Point::Many(draft, ManyPoint::MoveHead { .. }) => {
+                head_in(found) == HeadWord::Node(draft.notice.old_head)
+            }
+            Point::Help(_, HelpPoint::LinkChain(_)) => link_in(found) == LinkWord::Nil,
+            Point::Help(_, HelpPoint::Decide(_)) => old_tail_in(found).is_none(),
             _ => false,
         }
     }

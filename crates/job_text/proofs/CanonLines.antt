@@ -9,13 +9,14 @@ use Rattle.bq_model.specs.declared.fault.TextCause.{TextCause}
 use Rattle.bq_model.specs.declared.fault.TextFault.{TextFault}
 use Rattle.text_lines.specs.Words.{IsWord}
 use Rattle.text_lines.specs.Reading.{read_lines, text_line, most_bytes}
+use Rattle.text_lines.specs.Parts.{◌>>=◌}
 use Rattle.text_lines.proofs.IsWordLemmas.{IsWord-from_test}
 use Rattle.text_lines.proofs.PrintedLines.{AreWords, read_lines-joined, text_state-printed}
 use Rattle.text_lines.proofs.PrintedValues.{IsWord-decimal}
 use Rattle.job_work.specs.declared.job.Job.{Job}
 use Rattle.job_text.specs.declared.file.Unit.{Unit}
 use Rattle.job_text.specs.JobFile.{IsInRange, IsUnit, IsJobFile, job_count, most_jobs, most_lane, most_in_unit}
-use Rattle.job_text.specs.Grammar.{LinesSay, meaning, unit_of, nothing_yet, jobs_of, units_at_end, ◌>>=◌}
+use Rattle.job_text.specs.Grammar.{LinesSay, meaning, unit_of, nothing_yet, jobs_of, units_at_end}
 use Rattle.job_text.specs.Canon.{canon, job_words, put_line, block_lines, lane_lines, unit_lines}
 use Rattle.job_text.proofs.RangeLemmas.{job_count-more_jobs}
 use Rattle.job_text.proofs.CanonWords.{AreWords-job_words, job_of-job_words, lane_of-decimal}

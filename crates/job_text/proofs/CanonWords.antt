@@ -10,9 +10,10 @@ use Rattle.text_lines.proofs.PrintedLines.{AreWords}
 use Rattle.text_lines.proofs.PrintedValues.{IsWord-decimal, number_of-decimal, IsWord-printed_hex, IsWord-printed_byte, hex_of-printed_hex, byte_of-printed_byte}
 use Rattle.job_work.specs.declared.job.Job.{Job}
 use Rattle.job_work.specs.declared.job.Job.TheVariants.{Sum, Digest, Count, Mix, Words}
-use Rattle.job_text.specs.Each.{each_of}
+use Rattle.text_lines.specs.Each.{each_of}
+use Rattle.text_lines.specs.Parts.{or_bad_number}
 use Rattle.job_text.specs.JobFile.{IsInRange, most_lane, most_turns}
-use Rattle.job_text.specs.JobWords.{lane_of, job_of, or_bad_number}
+use Rattle.job_text.specs.JobWords.{lane_of, job_of}
 use Rattle.job_text.specs.Canon.{job_words}
 
 -- a fixed word before others

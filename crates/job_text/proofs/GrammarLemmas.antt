@@ -2,8 +2,9 @@
 use Rattle.std.proofs.Common.{◌≡◌, ℕ, ◌+◌, List, Result, take, ap, codes}
 use Rattle.bq_model.specs.declared.fault.TextFault.{TextFault}
 use Rattle.text_lines.specs.Reading.{most_bytes}
+use Rattle.text_lines.specs.Parts.{◌>>=◌}
 use Rattle.text_lines.proofs.ReadingLemmas.{text_state-take}
-use Rattle.job_text.specs.Grammar.{LinesSay, jobs_of, meaning, nothing_yet, units_at_end, ◌>>=◌}
+use Rattle.job_text.specs.Grammar.{LinesSay, jobs_of, meaning, nothing_yet, units_at_end}
 
 -- a text means what its first bytes do, one more than a text may have
 pub jobs_of-take : (text : List ℕ) → jobs_of (take (most_bytes + 1) text) ≡ jobs_of text

@@ -1,6 +1,6 @@
 -- Lemmas on the definitions of specs/, in files named for their topics.
-pub mod EachLemmas
 pub mod GrammarLemmas
+pub mod CauseLemmas
 pub mod JobFileLemmas
 pub mod RangeLemmas
 pub mod ReplyLemmas

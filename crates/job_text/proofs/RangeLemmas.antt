@@ -17,12 +17,13 @@ use Rattle.job_work.specs.declared.job.Job.{Job}
 use Rattle.job_work.specs.declared.job.Job.TheVariants.{Sum, Digest, Count, Mix, Words}
 use Rattle.job_text.specs.declared.file.Unit.{Unit}
 use Rattle.job_text.specs.declared.block.Block.{Block}
-use Rattle.job_text.specs.Each.{each_of}
+use Rattle.text_lines.specs.Each.{each_of}
+use Rattle.text_lines.specs.Parts.{or_bad_number, ◌>>=◌}
 use Rattle.job_text.specs.JobFile.{AreBytes, IsInRange, IsUnit, IsJobFile, job_count, most_jobs, most_lane, most_turns, most_in_unit}
-use Rattle.job_text.specs.JobWords.{lane_of, lane_of_number, digest_of, count_of, mix_of, job_of, job_of_kind, lane_job_of, only_lane_of, or_bad_number}
-use Rattle.job_text.specs.Grammar.{LinesSay, unit_of, add_job, put_job, end_block, open_block, outside, inside, line_in, meaning, units_at_end, nothing_yet, progress_of, ◌>>=◌}
+use Rattle.job_text.specs.JobWords.{lane_of, lane_of_number, digest_of, count_of, mix_of, job_of, job_of_kind, lane_job_of, only_lane_of}
+use Rattle.job_text.specs.Grammar.{LinesSay, unit_of, add_job, put_job, end_block, open_block, outside, inside, line_in, meaning, units_at_end, nothing_yet, progress_of}
 use Rattle.job_text.specs.Counted.{jobs_in}
-use Rattle.job_text.proofs.EachLemmas.{All-each_of}
+use Rattle.text_lines.proofs.EachLemmas.{All-each_of}
 use Rattle.job_text.specs.InProgress.{IsOpenBlock, IsInProgress}
 
 -- ---- cases

@@ -4,16 +4,12 @@ use Rattle.bq_model.specs.declared.fault.TextCause.{TextCause}
 use Rattle.bq_model.specs.declared.fault.TextCause.TheVariants.{BadWord, BlockTooLong, TooMany, OpenBlock}
 use Rattle.bq_model.specs.declared.fault.TextFault.{TextFault}
 use Rattle.text_lines.specs.Reading.{text_state, fault}
+use Rattle.text_lines.specs.Parts.{◌>>=◌}
 use Rattle.job_work.specs.declared.job.Job.{Job}
 use Rattle.job_text.specs.declared.file.Unit.{Unit}
 use Rattle.job_text.specs.declared.block.Block.{Block}
 use Rattle.job_text.specs.JobFile.{job_count, most_jobs, most_in_unit}
 use Rattle.job_text.specs.JobWords.{job_of, lane_job_of, only_lane_of}
-
-infixl 10 ◌>>=◌
-abbrev pub ◌>>=◌ : {A B E : Type 0} → Result A E → (A → Result B E) → Result B E
-Ok value >>= f = f value
-Err error >>= f = Err error
 
 -- what the lines so far say: the units that are done, and the block that is open
 pub record LinesSay : Type 0 where

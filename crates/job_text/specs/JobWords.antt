@@ -1,5 +1,5 @@
 -- What the words of a line say of a lane and of a job.
-use Rattle.std.specs.Prelude.{ℕ, List, [], ◌∷◌, Option, None, Some, Result, Ok, Err, option_map, option_and_then, ok_or, nat_le, codes, bytes_eq, if◌then◌else◌}
+use Rattle.std.specs.Prelude.{ℕ, List, [], ◌∷◌, Option, None, Some, Result, Ok, Err, option_map, option_and_then, nat_le, codes, bytes_eq, if◌then◌else◌}
 use Rattle.bq_model.specs.declared.fault.TextCause.{TextCause}
 use Rattle.bq_model.specs.declared.fault.TextCause.TheVariants.{BadWord, BadNumber, BadLane}
 use Rattle.text_lines.specs.Number.{number_of, number_within}
@@ -8,15 +8,12 @@ use Rattle.text_lines.specs.Cause.{both}
 use Rattle.job_work.specs.declared.job.Job.{Job}
 use Rattle.job_work.specs.declared.job.Job.TheVariants.{Sum, Digest, Count, Mix, Words}
 use Rattle.job_text.specs.JobFile.{most_lane, most_turns}
-use Rattle.job_text.specs.Each.{each_of}
+use Rattle.text_lines.specs.Each.{each_of}
+use Rattle.text_lines.specs.Parts.{or_bad_number}
 
 infixl 10 ◌>>=◌
 abbrev ◌>>=◌ : {A B : Type 0} → Option A → (A → Option B) → Option B
 found >>= f = option_and_then f found
-
--- what was found, or a bad number
-abbrev pub or_bad_number : {A : Type 0} → Option A → Result A TextCause
-or_bad_number found = ok_or found BadNumber
 
 -- a lane's number, if it isn't too high
 abbrev pub lane_of_number : Option ℕ → Result ℕ TextCause

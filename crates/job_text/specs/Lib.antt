@@ -1,8 +1,8 @@
 -- The text of a job file, and the replies to its jobs.
-pub mod Each
 pub mod JobFile
 pub mod JobWords
 pub mod Grammar
+pub mod LineCauses
 pub mod Counted
 pub mod InProgress
 pub mod Reads

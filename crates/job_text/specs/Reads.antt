@@ -1,3 +1,4 @@
+-- What a reader of a job file answers.
 use Rattle.std.specs.Prelude.{◌≡◌, List, Result, Ok, Err, ⊤}
 use Rattle.bq_model.specs.declared.fault.TextFault.{TextFault}
 use Rattle.bq_model.specs.declared.fault.TextRefused.{TextRefused}

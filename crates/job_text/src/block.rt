@@ -1,3 +1,4 @@
+// A block of jobs whose end is still to come.
 use bq_model::Items;
 use job_work::Job;
 

@@ -2,7 +2,7 @@
 ghost use Rattle.std.specs.Prelude.{◌≡◌, IfOk, IfSome, Ok, Err};
 ghost use Rattle.text_lines.specs.Number.{number_of};
 ghost use Rattle.text_lines.specs.Refusals.{ReadsPart};
-ghost use Rattle.job_text.specs.Each.{each_of};
+ghost use Rattle.text_lines.specs.Each.{each_of};
 ghost use Rattle.job_text.specs.JobWords.{lane_of, sum_of, digest_of, count_of, mix_of, job_of, job_of_kind, lane_job_of, only_lane_of};
 
 use bq_model::{Numbers, OutOfMemory, Text, TextCause, Texts};

@@ -2,6 +2,8 @@
 ghost use Rattle.std.specs.Prelude.{◌≡◌, ◌≢◌, ◌+◌, ◌<◌, ◌≤◌, ◌↔◌, List, [], ℕ, length, take, codes, Ok, Err, Some};
 ghost use Rattle.bq_model.specs.declared.fault.TextCause.TheVariants.{TooLong, OpenBlock};
 ghost use Rattle.bq_model.specs.declared.fault.TextFault.{TextFault};
+ghost use Rattle.text_lines.specs.Cause.{NamesFirst};
+ghost use Rattle.text_lines.specs.LineCauses.{line_causes};
 ghost use Rattle.text_lines.specs.Lines.{lines_of};
 ghost use Rattle.text_lines.specs.Reading.{most_bytes, fault, text_line, IsFirstFault};
 ghost use Rattle.job_text.specs.declared.block.Block.{Block};
@@ -10,6 +12,7 @@ ghost use Rattle.job_text.specs.JobFile.{IsJobFile, all_jobs};
 ghost use Rattle.job_text.specs.Canon.{canon};
 ghost use Rattle.job_text.specs.Generator.{gen_of, jobs_from};
 ghost use Rattle.job_text.specs.Grammar.{LinesSay, jobs_of, progress_of, meaning, nothing_yet};
+ghost use Rattle.job_text.specs.LineCauses.{applying};
 
 /// A text that is too long has that fault and no other. Else the fault is that of the first line with a fault, and an
 /// open block comes only where no line has one.
@@ -20,6 +23,13 @@ pub fn first_faulty_line_is_named()
     ensures line_before_block { (text : List ℕ) (found : TextFault) → (progress_of text ≡ Err found) → jobs_of text ≡ Err found }
     ensures open_block { (text : List ℕ) (so_far : LinesSay) (block : Block) → (progress_of text ≡ Ok so_far)
         → so_far.block ≡ Some block → jobs_of text ≡ Err (fault block.line OpenBlock) }
+{}
+
+/// The fault of a line is the one that comes first in the order, of all causes that apply to the line; a line to which
+/// none applies is taken.
+pub fn first_cause_of_a_line_is_named()
+    ensures { (number : ℕ) (so_far : LinesSay) (line : List ℕ)
+        → NamesFirst (line_causes (codes "bqjobs") (codes "1") applying number so_far line) (text_line (codes "bqjobs") (codes "1") meaning number so_far line) }
 {}
 
 /// A text is read as its first 16,777,217 bytes are, so that no more of it need be looked at.

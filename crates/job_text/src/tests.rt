@@ -1,11 +1,13 @@
 // Texts that are files, texts with a fault, and the replies' layout.
 use crate::file::JobFile;
-use crate::laws::{first_faulty_line_is_named, longer_texts_are_alike};
+use crate::laws::{
+    first_cause_of_a_line_is_named, first_faulty_line_is_named, longer_texts_are_alike,
+};
 use crate::read::read_jobs;
 use crate::reply::print_reply;
 use bq_model::{Text, TextCause, TextFault, TextRefused};
 use job_work::{Job, answer};
-use std::alloc::Global;
+use std::alloc::{AllocError, Global};
 use std::process::Abort;
 use std::test::Fail;
 
@@ -205,6 +207,39 @@ fn most_jobs_of_a_file_are_1000000(rt: HostRuntime) -> Result<(), Fail> {
     let mut text = front;
     text.extend_from_slice(b"block 0\nput sum\nput sum\n")?;
     assert_fault(&rt, rt.alloc(), &text, 1_000_003, TextCause::TooMany);
+    Ok(())
+}
+
+/// A file of 999,900 jobs, and a block of 100 that is still open.
+fn full_file_with_a_full_block(alloc: Global) -> Result<Vec<u8>, AllocError> {
+    let mut text = b"bqjobs 1\n".to_vec(alloc)?;
+    for _ in 0..999_900 {
+        text.extend_from_slice(b"job 0 sum\n")?;
+    }
+    text.extend_from_slice(b"block 0\n")?;
+    for _ in 0..100 {
+        text.extend_from_slice(b"put sum\n")?;
+    }
+    Ok(text)
+}
+
+#[test]
+fn first_cause_of_the_last_line_is_named(rt: HostRuntime) -> Result<(), Fail> {
+    first_cause_of_a_line_is_named();
+    let full = full_file_with_a_full_block(rt.alloc())?;
+    let table: [(&[u8], u32, TextCause); 6] = [
+        (b"put sum\n", 1_000_003, TextCause::BlockTooLong),
+        (b"put sum x\n", 1_000_003, TextCause::BadNumber),
+        (b"put add\n", 1_000_003, TextCause::BadWord),
+        (b"end\njob 0 sum\n", 1_000_004, TextCause::TooMany),
+        (b"end\njob 0 sum x\n", 1_000_004, TextCause::BadNumber),
+        (b"end\njob 16 sum\n", 1_000_004, TextCause::BadLane),
+    ];
+    for (last, line, cause) in table {
+        let mut text = full.clone()?;
+        text.extend_from_slice(last)?;
+        assert_fault(&rt, rt.alloc(), &text, line, cause);
+    }
     Ok(())
 }
 

@@ -1,3 +1,4 @@
+// The kinds of job.
 use bq_model::{Bytes, Numbers, Texts};
 
 /// A job, with all that its answer depends on.

@@ -1,3 +1,4 @@
+// Answers of each kind of job, worked out by hand or taken from the standard.
 use crate::{Job, answer, words_laws};
 use bq_model::{Bytes, Numbers, OutOfMemory, Text, Texts};
 use std::alloc::Global;

@@ -22,7 +22,7 @@ use Rattle.core_model.specs.Lawful.{Lawful}
 use Rattle.core_model.proofs.Puts.{put_here, put_else}
 use Rattle.core_model.proofs.Steps.{preserves_at}
 use Rattle.core_model.proofs.CodedSteps.{step_writes}
-use Rattle.core_model.proofs.ReadValues.{values_fit}
+use Rattle.core_model.proofs.ReadValues.{values_fit, walked_fit}
 use Rattle.lane_rule.specs.declared.view.View.{View}
 use Rattle.lane_rule.specs.declared.view.Held.{Held}
 use Rattle.lane_rule.specs.declared.view.Kind.{Kind}
@@ -137,10 +137,12 @@ module _ (key : Shape) (slots id : ℕ) (me : Me ℕ View) (alone : me.0.kind �
       same = refl;
       shape = refl;
       later = (sits.begins.0 ++ added_by z r.core.callers me.0.caller me.0.kept.point x, grows ∙ ap (λ (h : List Group). h ++ added_by z r.core.callers me.0.caller me.0.kept.point x) sits.begins.1 ∙ append_assoc me.0.seen sits.begins.0 (added_by z r.core.callers me.0.caller me.0.kept.point x));
+      heard = refl;
       found = subst (λ (p : Shape). MayHold p (target me.0.kept.point) x) (sym sits.planned) (found_at key r.core r.lawful r.codable me.0.caller me.0.kept.point point_is);
       ready = subst (λ (p : Shape). Ready p k'.point) (sym sits.planned) (subst (λ (k : Caller). Ready key k.point) here' (ready key core' lawful' codable' me.0.caller));
       knows = knows key core' lawful' w sits.planned refl here';
       reads = λ m r l is. subst (λ (k : Caller). length k.values < length k.ops) here' (values_fit z core' lawful' me.0.caller m r l (ap (λ (k : Caller). k.point) here' ∙ is));
+      walks = λ d r l is. subst (λ (k : Caller). length k.values < length k.ops) here' (walked_fit z core' lawful' me.0.caller d r l (ap (λ (k : Caller). k.point) here' ∙ is));
     }
 
   -- the step is allowed where it writes what the machine stores

@@ -27,7 +27,7 @@ use Rattle.lane_rule.specs.Rule.{caller_of, Ruled}
 use Rattle.lane_rule.specs.Goes.{Goes}
 use Rattle.lane_rule.specs.Begun.{begun}
 use Rattle.lane_rule.specs.Plays.{began, began_store, IsIdle, Starts}
-use Rattle.lane_rule.proofs.Expects.{loaded, written}
+use Rattle.lane_rule.proofs.Effects.{loaded, written}
 use Rattle.lane_rule.proofs.Begun.{first_allowed}
 use Rattle.lane_rule.proofs.Single.{read_back}
 

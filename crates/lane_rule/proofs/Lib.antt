@@ -1,4 +1,4 @@
-pub mod Expects
+pub mod Effects
 pub mod Ready
 pub mod Allowed
 pub mod Single

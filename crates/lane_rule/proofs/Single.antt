@@ -18,7 +18,7 @@ use Rattle.lane_rule.specs.declared.view.View.{View}
 use Rattle.lane_rule.specs.declared.view.Kind.TheVariants.{Alone}
 use Rattle.lane_rule.specs.Rule.{Ruled}
 use Rattle.lane_rule.specs.Plays.{found, wrote}
-use Rattle.lane_rule.proofs.Expects.{loaded, written, exchanged}
+use Rattle.lane_rule.proofs.Effects.{loaded, written, exchanged}
 use Rattle.lane_rule.proofs.Allowed.{allows}
 
 module _ (key : Shape) (slots id : ℕ) (me : Me ℕ View) (alone : me.0.kind ≡ Alone) (planned : me.0.shape ≡ key) where

@@ -1,5 +1,5 @@
 -- After a store the caller goes on whatever the word had, and no command begins with an exchange.
-use Rattle.std.proofs.Common.{◌≡◌, ℕ, sym, ap, ◌∙◌, subst, List, [], ◌∷◌}
+use Rattle.std.proofs.Common.{◌≡◌, ◌==◌, ℕ, Bool, true, false, sym, ap, ◌∙◌, subst, List, [], ◌∷◌}
 use Rattle.atomic_table.specs.Seated.{TableId}
 use Rattle.atomic_table.specs.declared.shared.Seat.{Seat}
 use Rattle.bq_model.specs.declared.shape.Shape.{Shape}
@@ -18,9 +18,11 @@ use Rattle.lane_rule.specs.Plays.{IsAt, Moves, IsIdle, Starts}
 use Rattle.bq_model.specs.declared.op.Op.{Op}
 use Rattle.bq_model.specs.declared.op.Op.TheVariants.{Enq, Deq}
 use Rattle.core_model.specs.LaneSizes.{LaneSizes, lane_sizes}
-use Rattle.core_model.specs.Start.{first_point}
+use Rattle.core_model.specs.declared.point.Draft.{Draft}
+use Rattle.core_model.specs.Start.{first_point, batch_point, draft_of}
+use Rattle.excess_count.specs.Excess.{enqueue_count}
 use Rattle.lane_rule.specs.Begun.{begun}
-use Rattle.lane_rule.proofs.Expects.{any_found}
+use Rattle.lane_rule.proofs.Effects.{any_found}
 
 pub stored_moves : (id : TableId) (key s : Shape) (t : Point) (p q : Seat ℕ View) (l : Location) (y x : Content) → IsAt id key s t p → act t ≡ Store l y → Moves p x q → Moves p y q
 stored_moves id key s t p q l y x at by m = let g = m.2 in (
@@ -32,10 +34,12 @@ stored_moves id key s t p q l y x at by m = let g = m.2 in (
     same = g.same;
     shape = g.shape;
     later = g.later;
+    heard = g.heard;
     found = subst (λ (z : Shape × Location). MayHold z.0 z.1 y) (λ i. (sym at.planned i, (ap location (sym by) ∙ ap target (sym at.point)) i)) (subst (ActFits key) by at.ready.fits);
     ready = g.ready;
     knows = g.knows;
     reads = g.reads;
+    walks = g.walks;
   },
   m.3,
 )
@@ -44,7 +48,10 @@ no_exchange : (z : LaneSizes) (c : ℕ) (k : Caller) (ops : List Op) (l : Locati
 no_exchange z c k [] l e y is = cc is
 no_exchange z c k (Enq v ∷ []) l e y is = cc is
 no_exchange z c k (Deq ∷ []) l e y is = cc is
-no_exchange z c k (op ∷ next ∷ ops) l e y is = cc is
+no_exchange z c k (op ∷ next ∷ ops) l e y is = by (enqueue_count (op ∷ next ∷ ops) == 0) (draft_of z c k (op ∷ next ∷ ops)) is where
+  by : (b : Bool) (d : Draft) → act (batch_point (op ∷ next ∷ ops) d b) ≡ Exchange l e y → ⊥
+  by true d same = cc same
+  by false d same = cc same
 
 pub first_no_exchange : (id : TableId) (key s : Shape) (ops : List Op) (t : Point) (p : Seat ℕ View) (l : Location) (e y : Content) → IsIdle id key s ops t p → act t ≡ Exchange l e y → ⊥
 first_no_exchange id key s ops t p l e y at is = no_exchange (lane_sizes key) p.me.0.caller (caller_of p.me.0.kept) ops l e y (ap act at.point ∙ is)
@@ -63,10 +70,12 @@ stored_starts id key s ops t p q l y x at by m = let n : ℕ = m.2.0 in let g = 
           same = g.same;
           shape = g.shape;
           later = g.later;
+          heard = g.heard;
           found = subst (λ (z : Shape × Location). MayHold z.0 z.1 y) (λ i. (sym at.planned i, (ap location (sym by) ∙ ap target (sym first)) i)) (subst (ActFits key) by at.ready.fits);
           ready = g.ready;
           knows = g.knows;
           reads = g.reads;
+          walks = g.walks;
         },
       ),
       m.3,

@@ -1,5 +1,5 @@
 -- What a step tells its caller.
-use Rattle.std.specs.Prelude.{◌≡◌, ℕ, ◌<◌, length, Some}
+use Rattle.std.specs.Prelude.{◌≡◌, ℕ, ◌<◌, [], length, Some}
 use Rattle.bq_model.specs.declared.shape.Shape.{Shape}
 use Rattle.word_rows.specs.declared.content.Content.{Content}
 use Rattle.word_rows.specs.Layout.{IsValid}
@@ -7,6 +7,8 @@ use Rattle.word_rows.specs.Contents.{MayHold}
 use Rattle.core_model.specs.declared.point.Point.{Point}
 use Rattle.core_model.specs.declared.point.Point.TheVariants as point
 use Rattle.core_model.specs.declared.point.AnswerPoint.TheVariants as answer
+use Rattle.core_model.specs.declared.point.ManyPoint.TheVariants as many
+use Rattle.core_model.specs.declared.point.Draft.{Draft}
 use Rattle.core_model.specs.LaneSizes.{lane_sizes}
 use Rattle.core_model.specs.State.{State}
 use Rattle.core_model.specs.Step.{act, target, after}
@@ -38,7 +40,7 @@ pub record Knows (v : View) : Type 0 where
   pub proper : IsProper v.shape.callers v.seen
   pub own : v.kept.point ≡ point.Idle → mine v.seen v.caller ≡ v.kept.mine
   -- its rows and announcements are counted by its groups
-  pub allowed : Allowed (lane_sizes v.shape) v.kept.mine v.kept.ops v.kept.taken v.kept.made
+  pub allowed : Allowed (lane_sizes v.shape) v.kept.mine v.kept.ops v.kept.taken v.kept.stopped v.kept.made
   pub done : v.kept.point ≡ point.Idle → v.kept.outcome ≡ Some Done → EndedDone (seen_by v) v.caller
 
 -- the caller's next point, after its word contained x
@@ -48,8 +50,10 @@ pub record Goes (v : View) (x : Content) (w : View) : Type 0 where
   pub same : w.caller ≡ v.caller
   pub shape : w.shape ≡ v.shape
   pub later : Begins v.seen w.seen
+  pub heard : w.heard ≡ []
   pub found : MayHold v.shape (target v.kept.point) x
   pub ready : Ready w.shape w.kept.point
   pub knows : Knows w
   -- where it reads a value, there is a dequeue that gets it
   pub reads : (m r l : ℕ) → w.kept.point ≡ point.Answer (answer.LoadValue m r l) → length w.kept.values < length w.kept.ops
+  pub walks : (d : Draft) (r l : ℕ) → w.kept.point ≡ point.Many d (many.LoadValue r l) → length w.kept.values < length w.kept.ops

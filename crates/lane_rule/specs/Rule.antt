@@ -1,4 +1,5 @@
--- The words and views of a lane's table show a lawful lane.
+-- The rule of a lane's table, in three layers: the words are the codes of contents, the contents are those of the machine's
+-- state, and the state is lawful. The views show what the machine keeps of each caller.
 use Rattle.std.specs.Prelude.{◌≡◌, ◌⊎◌, ℕ, ◌<◌, ◌≤◌, List, [], ◌∷◌, ◌++◌}
 use mathlib.Core.Option.{some}
 use lib.ListN.{get_elem?}
@@ -19,10 +20,10 @@ use Rattle.lane_rule.specs.declared.view.Kind.TheVariants.{Maker, Alone, Gathere
 
 -- what a view keeps of a caller, as the machine keeps it, and the other way round
 abbrev pub caller_of : Kept → Caller
-caller_of k = record { point = k.point; ops = k.ops; mine = k.mine; taken = k.taken; made = k.made; values = k.values; outcome = k.outcome; answers = k.answers; started_at = k.started_at; ended_at = k.ended_at }
+caller_of k = record { point = k.point; ops = k.ops; mine = k.mine; taken = k.taken; stopped = k.stopped; made = k.made; values = k.values; outcome = k.outcome; answers = k.answers; started_at = k.started_at; ended_at = k.ended_at }
 
 abbrev pub kept_of : Caller → Kept
-kept_of k = record { point = k.point; ops = k.ops; mine = k.mine; taken = k.taken; made = k.made; values = k.values; outcome = k.outcome; answers = k.answers; started_at = k.started_at; ended_at = k.ended_at }
+kept_of k = record { point = k.point; ops = k.ops; mine = k.mine; taken = k.taken; stopped = k.stopped; made = k.made; values = k.values; outcome = k.outcome; answers = k.answers; started_at = k.started_at; ended_at = k.ended_at }
 
 abbrev pub Begins : List Group → List Group → Type 0
 Begins seen history = (rest : List Group) × (history ≡ seen ++ rest)
@@ -58,13 +59,18 @@ module _ (key : Shape) (core : State) (seat : ℕ → ℕ) (j : ℕ) where
 abbrev pub Longest : List View → List Group → Type 0
 Longest views h = (j : ℕ) × (v : View) × (get_elem? views j ≡ some v) × ((v.seen ≡ h) ⊎ ((v.kind ≡ Gathered) × (v.heard ≡ h)))
 
+-- The words and the views of a table show a state of the machine.
 pub record Ruled (key : Shape) (s : table.State ℕ View) : Type 0 where
+  -- it is lawful, and all that it has can be coded
   pub core : State
   pub lawful : Lawful (lane_sizes key) core
   pub codable : IsCoded key core
-  pub seat : ℕ → ℕ
+  -- each word is the code of what the state has there
   pub shows : Shows key s.words (read core.memory)
+  -- each caller has a seat, and the seat's view shows what the state has of it
+  pub seat : ℕ → ℕ
   pub each_seat : (j : ℕ) (v : View) → get_elem? s.views j ≡ some v → Sits key core seat j v
+  -- no group of the history is unseen by all
   pub longest : Longest s.views core.history
 
 -- the first view, from which those of the callers are cut

@@ -26,6 +26,7 @@ pub struct Kept {
     pub ops: LinkedList<Op>,
     pub mine: LinkedList<Group>,
     pub taken: u64,
+    pub stopped: u64,
     pub made: u64,
     pub values: LinkedList<u64>,
     pub outcome: Option<CallEnd>,

@@ -1,13 +1,16 @@
 //! Tests of sessions over a lane that runs.
 //!
-//! `bench` has a lane of one caller with its session, `slow` a model of both that does each operation by itself,
-//! `worked` the worked examples, `beside` callers in threads of their own, and `sequences` the calls that are compared with the model.
+//! `calling` has two callers as docs/CALLING.md shows them. `bench` has a lane of one caller with its session, and `slow`
+//! a model of both that does each operation by itself; `worked` has the worked examples over them, and `sequences` the
+//! calls that are compared with the model. `beside` has callers in threads of their own.
 #![tactic(auto)]
 
 #[cfg(test)]
 mod bench;
 #[cfg(test)]
 mod beside;
+#[cfg(test)]
+mod calling;
 #[cfg(test)]
 mod sequences;
 #[cfg(test)]

@@ -108,7 +108,7 @@ module _ (shape : Shape) (s : State) (L : Lawful (lane_sizes shape) s) (c : ℕ)
   event_commands : (e : Event) → cause_of shape s e ≡ None → commands ((after_event shape s e).callers c) ≡ commands (s.callers c) ++ started_by shape s c e
   event_commands (event.Step d) none = step_commands d ∙ sym (append-nil (commands (s.callers c)))
   event_commands (event.Start d ops) none = let can = can_start shape s L (ltb d shape.callers) (is_command shape.batch ops) (is_idle (s.callers d).point) none in
-      start_commands d ops (idle_is (s.callers d).point can.2) (command_is shape.batch ops can.1).0.0
+      start_commands d ops (idle_is (s.callers d).point can.2) (command_is shape.batch ops can.1).0
 
 all_commands : (z : Shape) (s : State) (n : ℕ) (es : List Event) (t : State) (c : ℕ) → Lawful (lane_sizes z) s → schedule z s n es ≡ Ok t → commands (t.callers c) ≡ commands (s.callers c) ++ all_started z s c es
 all_commands z s n [] t c L is = ap (λ (y : State). commands (y.callers c)) (sym (same_state is)) ∙ sym (append-nil (commands (s.callers c)))

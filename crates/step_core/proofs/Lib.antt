@@ -1,3 +1,4 @@
+pub mod Courses
 pub mod Totals
 pub mod Callers
 pub mod Fields

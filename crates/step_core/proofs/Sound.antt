@@ -22,7 +22,7 @@ use Rattle.core_model.specs.Ranges.{IsWord, RowsFit, CountsFit}
 use Rattle.core_model.specs.Lawful.{Lawful}
 use Rattle.core_model.proofs.Puts.{put_all}
 use Rattle.core_model.proofs.Steps.{preserves_next}
-use Rattle.core_model.proofs.ReadValues.{values_fit}
+use Rattle.core_model.proofs.ReadValues.{values_fit, walked_fit}
 use Rattle.core_model.proofs.InRange.{counts_fit, rows_fit, is_word, shape_fits}
 use Rattle.step_core.specs.declared.call.Call.{Call}
 use Rattle.step_core.specs.declared.lists.Lists.{Lists}
@@ -81,6 +81,8 @@ module _ (a : Lists) (S : IsSound a) where
         rows = fits_rows c f.0.point (sym (ap (λ (k : Caller). k.point) was));
         reads = λ m r l is. let e = ap (λ (k : Caller). length k.values) was in let o = ap (λ (k : Caller). length k.ops) was in
             let less = values_fit (lane_sizes a.shape) (state_of a) S.lawful c m r l (ap (λ (k : Caller). k.point) was ∙ is) in omega arith;
+        walks = λ d r l is. let e = ap (λ (k : Caller). length k.values) was in let o = ap (λ (k : Caller). length k.ops) was in
+            let less = walked_fit (lane_sizes a.shape) (state_of a) S.lawful c d r l (ap (λ (k : Caller). k.point) was ∙ is) in omega arith;
       })
 
   module _ (c : ℕ) (runs : (callers_of a.calls.items c).point ≢ Idle) (e : Lists) (t : Point) (at : t ≡ (callers_of a.calls.items c).point)

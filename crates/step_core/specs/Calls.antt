@@ -5,12 +5,14 @@ use Rattle.bq_model.specs.Values.{enqueued}
 use Rattle.core_model.specs.declared.point.Point.TheVariants.{Idle}
 use Rattle.core_model.specs.declared.point.Point.TheVariants as point
 use Rattle.core_model.specs.declared.point.AnswerPoint.TheVariants as answer
+use Rattle.core_model.specs.declared.point.ManyPoint.TheVariants as many
+use Rattle.core_model.specs.declared.point.Draft.{Draft}
 use Rattle.core_model.specs.Ranges.{RowsFit}
 use Rattle.core_model.specs.State.{Caller}
 use Rattle.step_core.specs.declared.call.Call.{Call}
 
 abbrev pub call_of : Call → Caller
-call_of k = record { point = k.point; ops = k.ops; mine = k.mine.items; taken = k.taken; made = k.made; values = k.values.items; outcome = k.outcome; answers = k.answers.items; started_at = k.started_at; ended_at = k.ended_at }
+call_of k = record { point = k.point; ops = k.ops; mine = k.mine.items; taken = k.taken; stopped = k.stopped; made = k.made; values = k.values.items; outcome = k.outcome; answers = k.answers.items; started_at = k.started_at; ended_at = k.ended_at }
 
 -- In a lane with batches of so many operations: there is memory for the steps and the end of the command, its operations
 -- are counted, and the values of its enqueues are at hand.
@@ -35,3 +37,4 @@ pub record MayGo (k : Call) : Type 0 where
   pub rows : RowsFit k.point
   -- where it reads a value, there is a dequeue that gets it
   pub reads : (m r l : ℕ) → k.point ≡ point.Answer (answer.LoadValue m r l) → length k.values.items < length k.ops
+  pub walks : (d : Draft) (r l : ℕ) → k.point ≡ point.Many d (many.LoadValue r l) → length k.values.items < length k.ops

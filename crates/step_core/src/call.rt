@@ -3,12 +3,12 @@ ghost use Rattle.std.specs.Prelude.{◌≡◌, ◌≢◌, ℕ, ◌+◌, ◌++◌
 ghost use Rattle.bq_model.specs.History.{operations};
 ghost use Rattle.bq_model.specs.Values.{enqueued};
 ghost use Rattle.excess_count.specs.Pairing.{paired};
-ghost use Rattle.core_model.specs.Step.{after, ended, reads_on, stepped};
+ghost use Rattle.core_model.specs.Step.{after, ended, reads_on, stepped, stepped_with};
 ghost use Rattle.core_model.specs.Start.{newcomer};
 ghost use Rattle.step_core.specs.Calls.{call_of, IsReady, MayEnd, MayGo};
 
 use bq_model::{Answer, Answers, Group, Ops, OutOfMemory};
-use core_model::{AnswerPoint, BatchPoint, CallEnd, Course, Draft, Point};
+use core_model::{AnswerPoint, BatchPoint, CallEnd, Course, Draft, Point, Stock};
 use excess_count::pair;
 use std::alloc::Global;
 use std::mem;
@@ -28,8 +28,9 @@ pub struct Call {
     pub mine: Vec<Group>,
     /// How many operations they have.
     pub operations: u64,
-    /// How many rows the caller took, and how many announcements.
+    /// How many item rows the caller took, how many stoppers, and how many announcements.
     pub taken: u32,
+    pub stopped: u32,
     pub made: u32,
     /// The values that it has read for the answers of its batch.
     pub values: Vec<u64>,
@@ -55,6 +56,7 @@ impl Call {
             mine: Vec::new(alloc),
             operations: 0,
             taken: 0,
+            stopped: 0,
             made: 0,
             values: Vec::new(alloc),
             outcome: None,
@@ -77,28 +79,21 @@ impl Call {
     }
 
     /// A command starts, when the history has `now` groups and the caller then has taken so many rows and announcements.
-    pub fn begin(
-        &mut self,
-        point: Point,
-        ops: Ops,
-        puts: Vec<u64>,
-        taken: u32,
-        made: u32,
-        now: usize,
-    )
+    pub fn begin(&mut self, point: Point, ops: Ops, puts: Vec<u64>, stock: Stock, now: usize)
         requires ready { IsReady self.old.answers.capacity self.old }
         requires room { vec_len self.old.mine < vec_capacity self.old.mine }
         requires values { length ops ≤ vec_capacity self.old.values }
         requires fits { length ops ≤ self.old.answers.capacity }
         requires puts { puts.items ≡ enqueued ops }
-        ensures begins { call_of self.new ≡ record (call_of self.old) { point = point; ops = ops; taken = taken; made = made; values = []; started_at = now; ended_at = None } }
+        ensures begins { call_of self.new ≡ record (call_of self.old) { point = point; ops = ops; taken = stock.taken; stopped = stock.stopped; made = stock.made; values = []; started_at = now; ended_at = None } }
         ensures ready { IsReady self.old.answers.capacity self.new }
     {
         self.point = point;
         self.ops = ops;
         self.puts = puts;
-        self.taken = taken;
-        self.made = made;
+        self.taken = stock.taken;
+        self.stopped = stock.stopped;
+        self.made = stock.made;
         self.values.clear();
         self.started_at = now;
         self.ended_at = None;
@@ -197,6 +192,42 @@ impl Call {
         }
     }
 
+    // A batch of dequeues alone begins its walk, with no value read.
+    fn walk(&mut self, point: Point)
+        requires { MayEnd self.old }
+        ensures walks { call_of self.new ≡ stepped_with (call_of self.old) point [] }
+        ensures ready { IsReady self.old.answers.capacity self.new }
+    {
+        self.values.clear();
+        self.point = point;
+    }
+
+    // A batch of dequeues alone goes on with its walk, with one more value read.
+    fn walk_on(&mut self, point: Point, value: u64)
+        requires may { MayEnd self.old }
+        requires room { vec_len self.old.values < vec_capacity self.old.values }
+        ensures walks { call_of self.new ≡ stepped_with (call_of self.old) point (self.old.values.items ++ value ∷ []) }
+        ensures ready { IsReady self.old.answers.capacity self.new }
+    {
+        self.values.push_reserved(value);
+        self.point = point;
+    }
+
+    // A batch ends with the answers from so many queued values, of which it has read those that it gets.
+    fn answer(&mut self, caller: u32, queued: u64, now: usize)
+        requires { MayEnd self.old }
+        ensures ended { call_of self.new ≡ ended now caller (call_of self.old) (paired self.old.ops queued self.old.values.items) }
+        ensures ready { IsReady self.old.answers.capacity self.new }
+    {
+        pair(
+            self.ops.as_slice(),
+            queued,
+            self.values.as_slice(),
+            &mut self.answers,
+        );
+        self.end(caller, now);
+    }
+
     /// The caller goes on after the step that found this in its word, when the history has `now` groups.
     pub fn go(&mut self, caller: u32, found: Content, now: usize)
         requires { MayGo self.old }
@@ -214,6 +245,9 @@ impl Call {
                 left,
                 value,
             } => self.read_more(caller, queued, row, left, value, now),
+            Course::Walks(point) => self.walk(point),
+            Course::WalksMore(point, value) => self.walk_on(point, value),
+            Course::Answers(queued) => self.answer(caller, queued, now),
         }
     }
 }

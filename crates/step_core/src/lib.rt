@@ -11,8 +11,6 @@ mod lists;
 mod machine;
 mod schedule;
 mod starts;
-#[cfg(test)]
-mod tests;
 mod words;
 
 pub use core_model::{Back, CallEnd, Draft, Help, Item, Notice, Point, StepKind};

@@ -55,12 +55,15 @@ pub struct Lists {
     pub copies: Vec<Ops>,
 }
 
-// Whose group the step adds to the history: that of the announcement's owner where it links a chain, else its caller's.
+// Whose group the step adds to the history: that of the announcement's owner where it links a chain or a stopper or decides,
+// else its caller's.
 fn group_owner(shape: &Shape, caller: u32, point: Point) -> u32
     ensures { result ≡ group_owner (lane_sizes shape.now) caller point }
 {
     match point {
-        Point::Help(help, HelpPoint::LinkChain(_)) => help.ann / shape.callers(),
+        Point::Help(help, HelpPoint::LinkChain(_) | HelpPoint::Decide(_)) => {
+            help.ann / shape.callers()
+        }
         _ => caller,
     }
 }

@@ -13,7 +13,6 @@ use crate::machine::Machine;
 use crate::starts::Started;
 use bq_model::{Op, Ops, OutOfMemory, Shape};
 use core_model::StepKind;
-use excess_count::count;
 use std::alloc::Global;
 
 /// Something that happens to a machine.
@@ -38,7 +37,7 @@ pub enum Event {
 pub enum EventCause {
     /// There is no such caller.
     BadCaller,
-    /// A command is started with no operation, with more than the lane takes in a batch, or with several dequeues alone.
+    /// A command is started with no operation, or with more than the lane takes in a batch.
     BadBatch,
     /// A command is started by a caller that runs one.
     BusyCaller,
@@ -86,10 +85,7 @@ impl Machine {
     fn takes(&self, ops: &[Op]) -> bool
         ensures { result ≡ is_command self.now.shape.batch ops.now }
     {
-        if ops.len() > self.batch() as usize {
-            return false;
-        }
-        ops.len() == 1 || count(ops).enqs > 0
+        !ops.is_empty() && ops.len() <= self.batch() as usize
     }
 
     // Why the event cannot happen now.

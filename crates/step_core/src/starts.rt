@@ -15,7 +15,7 @@ ghost use Rattle.step_core.specs.Lists.{callers_of, state_of, IsSound};
 
 use crate::lists::Lists;
 use bq_model::{Op, Ops, OutOfMemory, Shape};
-use core_model::{Stock, anns_taken};
+use core_model::{Stock, anns_taken, stoppers_taken};
 use excess_count::{Counts, count};
 use std::alloc::Global;
 use word_rows::items;
@@ -72,12 +72,14 @@ impl Lists {
     fn stock(&self, caller: u32) -> Stock
         requires { caller < vec_len self.now.calls }
         ensures taken { result.taken ≡ (callers_of self.now.calls.items caller).taken }
+        ensures stopped { result.stopped ≡ (callers_of self.now.calls.items caller).stopped }
         ensures made { result.made ≡ (callers_of self.now.calls.items caller).made }
         ensures batch { result.batch ≡ length (callers_of self.now.calls.items caller).mine }
     {
         let call = &self.calls[caller as usize];
         Stock {
             taken: call.taken,
+            stopped: call.stopped,
             made: call.made,
             batch: call.mine.len() as u64,
         }
@@ -154,11 +156,16 @@ impl Lists {
         let now = self.history.len();
         let stock = self.stock(caller);
         let point = stock.first_point(&self.shape, caller, ops.as_slice(), counts, puts.as_slice());
-        let taken = stock.taken + counts.enqs;
-        let made = stock.made + anns_taken(ops.len());
+        let operations = ops.len();
+        let stock = Stock {
+            taken: stock.taken + counts.enqs,
+            stopped: stock.stopped + stoppers_taken(operations, counts.enqs),
+            made: stock.made + anns_taken(operations),
+            batch: stock.batch,
+        };
         self.copies[caller as usize] = copy;
         let call = &mut self.calls[caller as usize];
-        call.begin(point, ops, puts, taken, made, now);
+        call.begin(point, ops, puts, stock, now);
     }
 
     /// Starts a command.

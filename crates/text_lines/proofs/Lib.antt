@@ -3,6 +3,8 @@ pub mod NumberLemmas
 pub mod LineLemmas
 pub mod WordLemmas
 pub mod HexLemmas
+pub mod EachLemmas
+pub mod FirstCauses
 pub mod ReadingLemmas
 pub mod IsWordLemmas
 pub mod PrintedLines

@@ -1,8 +1,8 @@
 -- The order of the causes of faults within a line.
-use Rattle.std.specs.Prelude.{ℕ, ◌≤◌, List, Result, Ok, Err, All, Contains, option_to_list, nat_le, if◌then◌else◌}
+use Rattle.std.specs.Prelude.{◌≡◌, ℕ, ◌≤◌, List, [], Result, Ok, Err, All, Contains, option_to_list, nat_le, if◌then◌else◌}
 use Rattle.std.specs.Result.{result_err}
 use Rattle.bq_model.specs.declared.fault.TextCause.{TextCause}
-use Rattle.bq_model.specs.declared.fault.TextCause.TheVariants.{NotText, NoHeader, BadWord, BadNumber, BadLane, BusyCaller, BlockTooLong, TooMany, OpenBlock, TooLong, OtherForm}
+use Rattle.bq_model.specs.declared.fault.TextCause.TheVariants.{NotText, NoHeader, BadWord, BadNumber, BadLane, BusyCaller, BlockTooLong, TooMany, OpenBlock, TooLong}
 
 -- the place of a cause in the order
 abbrev pub rank : TextCause → ℕ
@@ -16,7 +16,6 @@ rank BlockTooLong = 6
 rank TooMany = 7
 rank OpenBlock = 8
 rank TooLong = 9
-rank OtherForm = 10
 
 -- the one of two causes that comes first
 abbrev pub earlier : TextCause → TextCause → TextCause
@@ -37,3 +36,8 @@ causes part = option_to_list (result_err part)
 pub record IsFirstCause (applying : List TextCause) (cause : TextCause) : Type 0 where
   pub applies : Contains applying cause
   pub first : All (λ other. rank cause ≤ rank other) applying
+
+-- What becomes of a line to which these causes apply: where there is none it is taken, else it has the first of them.
+abbrev pub NamesFirst : {A : Type 0} → List TextCause → Result A TextCause → Type 0
+NamesFirst applying (Ok taken) = applying ≡ []
+NamesFirst applying (Err cause) = IsFirstCause applying cause

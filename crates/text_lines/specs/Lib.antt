@@ -5,5 +5,8 @@ pub mod Number
 pub mod Hex
 pub mod Printed
 pub mod Cause
+pub mod Parts
+pub mod Each
 pub mod Reading
+pub mod LineCauses
 pub mod Refusals

@@ -30,6 +30,5 @@ fn rank_of(cause: TextCause) -> u8
         TextCause::TooMany => 7,
         TextCause::OpenBlock => 8,
         TextCause::TooLong => 9,
-        TextCause::OtherForm => 10,
     }
 }

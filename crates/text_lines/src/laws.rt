@@ -3,7 +3,8 @@ ghost use Rattle.std.specs.Prelude.{◌≡◌, ◌≢◌, ℕ, ◌<◌, ◌≤�
 ghost use Rattle.bq_model.specs.declared.fault.TextCause.{TextCause};
 ghost use Rattle.bq_model.specs.declared.fault.TextCause.TheVariants.{NoHeader, TooLong};
 ghost use Rattle.bq_model.specs.declared.fault.TextFault.{TextFault};
-ghost use Rattle.text_lines.specs.Cause.{both, causes, IsFirstCause};
+ghost use Rattle.text_lines.specs.Cause.{both, causes, IsFirstCause, NamesFirst};
+ghost use Rattle.text_lines.specs.LineCauses.{line_causes};
 ghost use Rattle.text_lines.specs.Lines.{lines_of};
 ghost use Rattle.text_lines.specs.Words.{words_of, IsWord};
 ghost use Rattle.text_lines.specs.Number.{number_of};
@@ -11,10 +12,15 @@ ghost use Rattle.text_lines.specs.Hex.{hex_of, byte_of};
 ghost use Rattle.text_lines.specs.Printed.{printed_lines, printed_hex, printed_byte};
 ghost use Rattle.text_lines.specs.Reading.{read_lines, text_line, text_state, fault, most_bytes, IsFirstFault};
 
-/// Where parts of a line have faults, the line's fault is the one that comes first in the order.
+/// Where parts of a line have faults, the line's fault is the one that comes first in the order. So it is with a whole
+/// line, if it is with the words of each line behind the header; and a line is taken only where no fault applies to it.
 pub fn fault_of_a_line_comes_first_in_the_order<A, B>()
-    ensures { (one : Result A TextCause) (other : Result B TextCause) (cause : TextCause)
+    ensures parts { (one : Result A TextCause) (other : Result B TextCause) (cause : TextCause)
         → (both one other ≡ Err cause) → IsFirstCause (causes one ++ causes other) cause }
+    ensures line { (name version : List ℕ) (meaning : ℕ → A → List (List ℕ) → Result A TextCause) (applying : ℕ → A → List (List ℕ) → List TextCause)
+        → ((number : ℕ) (state : A) (words : List (List ℕ)) → NamesFirst (applying number state words) (meaning number state words))
+        → (number : ℕ) (state : A) (line : List ℕ)
+        → NamesFirst (line_causes name version applying number state line) (text_line name version meaning number state line) }
 {}
 
 /// A text that is too long has that fault and no other. Else its fault is that of the first line with a fault, and an

@@ -1,3 +1,4 @@
+// Why a line is not read: its fault, or want of memory.
 use bq_model::{OutOfMemory, TextCause};
 
 /// Why a line was not read.

@@ -16,9 +16,10 @@ use Rattle.text_lines.specs.Reading.{most_bytes, fault, text_state}
 use Rattle.text_lines.proofs.ReadingLemmas.{text_state-keeps, text_state-take, if_ok}
 use Rattle.trace_text.specs.declared.claim.Claim.{Claim}
 use Rattle.trace_text.specs.declared.claim.Entry.{Entry}
-use Rattle.trace_text.specs.Each.{each_of}
-use Rattle.trace_text.specs.Claims.{has_letter, claim_of, claims_of, or_bad_number, entry_of}
-use Rattle.trace_text.specs.HistoryText.{History, LinesSay, operation_count, most_operations, callers_in, entry_in, add_entry, group_line, line_in, meaning, nothing_yet, said_of, history_at_end, hist_of, ◌>>=◌}
+use Rattle.text_lines.specs.Each.{each_of}
+use Rattle.text_lines.specs.Parts.{or_bad_number, ◌>>=◌}
+use Rattle.trace_text.specs.Claims.{has_letter, claim_of, claims_of, entry_of}
+use Rattle.trace_text.specs.HistoryText.{History, LinesSay, operation_count, most_operations, callers_in, entry_in, add_entry, group_line, line_in, meaning, nothing_yet, said_of, history_at_end, hist_of}
 use Rattle.trace_text.specs.ScheduleText.{play_meaning, machine_at_end, play_of}
 use Rattle.trace_text.proofs.LegalLemmas.{IsFilled}
 

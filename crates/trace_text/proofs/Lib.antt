@@ -1,5 +1,4 @@
 -- Lemmas on the definitions of specs/, in files named for their topics.
-pub mod EachLemmas
 pub mod HistoryLemmas
 pub mod GrammarLemmas
 pub mod JudgingLemmas
@@ -7,3 +6,5 @@ pub mod LegalLemmas
 pub mod PlayLemmas
 pub mod ShapeLemmas
 pub mod PrintLemmas
+pub mod ReadBack
+pub mod PrintedLegal

@@ -1,9 +1,17 @@
 -- Texts that grow at their end.
-use Rattle.std.proofs.Common.{◌≡◌, ℕ, zero, suc, ◌+◌, ◌-◌, ◌<◌, Bool, true, false, cond, List, [], ◌∷◌, ◌++◌, map, filter, refl, sym, ap, ◌∙◌, arith, append_assoc, append-nil, codes}
+use Rattle.std.proofs.Common.{◌≡◌, ℕ, zero, suc, ◌+◌, ◌-◌, ◌<◌, Bool, true, false, cond, List, [], ◌∷◌, ◌++◌, map, filter, refl, sym, ap, ◌∙◌, arith, append_assoc, append-nil, codes, length, take, drop, get_or, add-one}
 use Rattle.std.specs.List.{range_with_len}
 use Rattle.text_lines.specs.Printed.{printed_line, printed_lines, spaced}
 use Rattle.text_lines.proofs.PrintedLines.{join-spaced}
-use Rattle.trace_text.specs.Printed.{unfinished_line}
+use Rattle.std.proofs.Math.Seq.{drop-cons, take-suc}
+use Rattle.std.proofs.lemmas.Grind.{flat_map-append}
+use Rattle.std.proofs.lemmas.List.{map-append}
+use Rattle.bq_model.specs.declared.op.Op.{Op}
+use Rattle.bq_model.specs.declared.op.Answer.{Answer}
+use Rattle.bq_model.specs.Queue.{queue_after, answer_at_queue}
+use Rattle.bq_model.specs.Replay.{queue_from}
+use Rattle.trace_text.specs.declared.play.Refused.{Refused}
+use Rattle.trace_text.specs.Printed.{unfinished_line, answer_word, op_words, refused_line}
 
 flat : (t g p a b s n : List ℕ) → ((((((t ++ g) ++ p) ++ a) ++ p) ++ b) ++ s) ++ n ≡ t ++ ((g ++ ((p ++ a) ++ ((p ++ b) ++ s))) ++ n)
 flat t g p a b s n = simp append_assoc
@@ -50,3 +58,40 @@ unfinished-more p c n old new whole below grown before =
     ap (λ (t : List ℕ). t ++ comments p rest) grown
     ∙ (append_assoc old (comments p (c ∷ [])) (comments p rest)
     ∙ (ap (λ (t : List ℕ). old ++ t) (comments-cons p c rest ∙ ap (comments p) (sym here)) ∙ before))
+
+-- ---- operations
+
+flat_one : (t p w x : List ℕ) → ((t ++ p) ++ w) ++ x ≡ t ++ ((p ++ w) ++ x)
+flat_one t p w x = simp append_assoc
+
+module _ (q next : List ℕ) (ops : List Op) (k : ℕ) (d : Op) (inside : k < length ops) (after : next ≡ queue_after q (get_or ops k d)) where
+  split : drop k ops ≡ get_or ops k d ∷ drop (k + 1) ops
+  split = rw add-one (drop-cons ops k d inside)
+
+  -- one more operation
+  pub ops_printed-more : (old new whole : List ℕ) (answer : Answer) → answer ≡ answer_at_queue q (get_or ops k d) → new ≡ old ++ codes " " ++ answer_word (get_or ops k d) answer
+      → old ++ spaced (op_words q (drop k ops)) ≡ whole → new ++ spaced (op_words next (drop (k + 1) ops)) ≡ whole
+  ops_printed-more old new whole answer answer_is grown before =
+      let op = get_or ops k d in
+      let rest = drop (k + 1) ops in
+      ap (λ (t : List ℕ). t ++ spaced (op_words next rest)) (grown ∙ ap (λ (a : Answer). old ++ codes " " ++ answer_word op a) answer_is)
+      ∙ (ap (λ (r : List ℕ). old ++ codes " " ++ answer_word op (answer_at_queue q op) ++ spaced (op_words r rest)) after
+      ∙ (flat_one old (codes " ") (answer_word op (answer_at_queue q op)) (spaced (op_words (queue_after q op) rest)) ∙ (ap (λ (left : List Op). old ++ spaced (op_words q left)) (sym split) ∙ before)))
+
+  pub queue_left-more : (whole : List ℕ) → queue_from q (drop k ops) ≡ whole → queue_from next (drop (k + 1) ops) ≡ whole
+  queue_left-more whole before = ap (λ (r : List ℕ). queue_from r (drop (k + 1) ops)) after ∙ (ap (queue_from q) (sym split) ∙ before)
+
+-- ---- refusals
+
+-- one more refusal
+pub refusals_printed-more : (start old new : List ℕ) (rs : List Refused) (k : ℕ) (d : Refused) → k < length rs → old ≡ start ++ printed_lines (map refused_line (take k rs)) → new ≡ old ++ printed_line (refused_line (get_or rs k d))
+    → new ≡ start ++ printed_lines (map refused_line (take (k + 1) rs))
+refusals_printed-more start old new rs k d inside before grown =
+    let one = get_or rs k d in
+    let front = map refused_line (take k rs) in
+    let longer : take (k + 1) rs ≡ take k rs ++ one ∷ [] = rw add-one (take-suc rs k d inside) in
+    let lines : printed_lines (map refused_line (take (k + 1) rs)) ≡ printed_lines front ++ printed_line (refused_line one) =
+    ap (λ (xs : List Refused). printed_lines (map refused_line xs)) longer
+    ∙ (ap printed_lines (map-append refused_line (take k rs) (one ∷ []))
+    ∙ (flat_map-append printed_line front (refused_line one ∷ []) ∙ ap (λ (line : List ℕ). printed_lines front ++ line) (append-nil (printed_line (refused_line one))))) in
+    grown ∙ (ap (λ (t : List ℕ). t ++ printed_line (refused_line one)) before ∙ (append_assoc start (printed_lines front) (printed_line (refused_line one)) ∙ ap (λ (t : List ℕ). start ++ t) (sym lines)))

@@ -1,5 +1,5 @@
 -- What the words of a line claim of a group.
-use Rattle.std.specs.Prelude.{ℕ, List, [], ◌∷◌, Bool, false, ◌||◌, Option, None, Some, Result, Err, option_map, option_and_then, ok_or, ◌==◌, codes, bytes_eq, map, if◌then◌else◌}
+use Rattle.std.specs.Prelude.{ℕ, List, [], ◌∷◌, Bool, false, ◌||◌, Option, None, Some, Result, Err, option_map, option_and_then, ◌==◌, codes, bytes_eq, map, if◌then◌else◌}
 use Rattle.std.specs.List.{list_all}
 use Rattle.bq_model.specs.declared.op.Op.{Op}
 use Rattle.bq_model.specs.declared.op.Op.TheVariants.{Enq, Deq}
@@ -7,19 +7,16 @@ use Rattle.bq_model.specs.declared.op.Answer.{Answer}
 use Rattle.bq_model.specs.declared.op.Answer.TheVariants.{Done, Got, Empty}
 use Rattle.bq_model.specs.declared.group.Group.{Group}
 use Rattle.bq_model.specs.declared.fault.TextCause.{TextCause}
-use Rattle.bq_model.specs.declared.fault.TextCause.TheVariants.{BadWord, BadNumber}
+use Rattle.bq_model.specs.declared.fault.TextCause.TheVariants.{BadWord}
 use Rattle.text_lines.specs.Number.{number_of}
 use Rattle.trace_text.specs.declared.claim.Claim.{Claim}
 use Rattle.trace_text.specs.declared.claim.Entry.{Entry}
-use Rattle.trace_text.specs.Each.{each_of}
+use Rattle.text_lines.specs.Each.{each_of}
+use Rattle.text_lines.specs.Parts.{or_bad_number}
 
 infixl 10 ◌>>=◌
 abbrev ◌>>=◌ : {A B : Type 0} → Option A → (A → Option B) → Option B
 found >>= f = option_and_then f found
-
--- what was found, or a bad number
-abbrev pub or_bad_number : {A : Type 0} → Option A → Result A TextCause
-or_bad_number found = ok_or found BadNumber
 
 abbrev pub claim : Op → Answer → Claim
 claim op answer = record { op = op; answer = answer }

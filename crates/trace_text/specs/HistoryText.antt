@@ -6,13 +6,9 @@ use Rattle.bq_model.specs.declared.fault.TextFault.{TextFault}
 use Rattle.text_lines.specs.Lines.{lines_of}
 use Rattle.text_lines.specs.Number.{number_within}
 use Rattle.text_lines.specs.Reading.{text_state, fault}
+use Rattle.text_lines.specs.Parts.{or_bad_number, ◌>>=◌}
 use Rattle.trace_text.specs.declared.claim.Entry.{Entry}
-use Rattle.trace_text.specs.Claims.{or_bad_number, claims_of, entry_of}
-
-infixl 10 ◌>>=◌
-abbrev pub ◌>>=◌ : {A B E : Type 0} → Result A E → (A → Result B E) → Result B E
-Ok value >>= f = f value
-Err error >>= f = Err error
+use Rattle.trace_text.specs.Claims.{claims_of, entry_of}
 
 -- the most callers, and the most operations
 abbrev pub most_callers : ℕ

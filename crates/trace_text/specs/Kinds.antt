@@ -20,6 +20,9 @@ kind_name kind.LinkChain = codes "link_chain"
 kind_name kind.RecordTail = codes "record_tail"
 kind_name kind.MoveTailOver = codes "move_tail_over"
 kind_name kind.MoveHeadAnn = codes "move_head_ann"
+kind_name kind.MoveHeadMany = codes "move_head_many"
+kind_name kind.LinkStopper = codes "link_stopper"
+kind_name kind.Decide = codes "decide"
 
 -- whether a word is one of the kinds of plain calls
 abbrev pub is_plain_kind : List ℕ → Bool
@@ -33,6 +36,10 @@ is_batch_kind word =
     bytes_eq word (codes "store_chain") || bytes_eq word (codes "store_ann") || bytes_eq word (codes "install") || bytes_eq word (codes "load_ann")
     || bytes_eq word (codes "link_chain") || bytes_eq word (codes "record_tail") || bytes_eq word (codes "move_tail_over") || bytes_eq word (codes "move_head_ann")
 
+-- whether a word is one of those that batches of dequeues alone add
+abbrev pub is_alone_kind : List ℕ → Bool
+is_alone_kind word = bytes_eq word (codes "move_head_many") || bytes_eq word (codes "link_stopper") || bytes_eq word (codes "decide")
+
 -- whether a word is a kind
 abbrev pub is_kind : List ℕ → Bool
-is_kind word = is_plain_kind word || is_batch_kind word
+is_kind word = is_plain_kind word || is_batch_kind word || is_alone_kind word

@@ -1,5 +1,4 @@
 -- The text of a history, and what is found of it.
-pub mod Each
 pub mod Claims
 pub mod HistoryText
 pub mod Verdicts
@@ -12,3 +11,4 @@ pub mod Played
 pub mod PlayState
 pub mod ScheduleText
 pub mod Printed
+pub mod Ranges

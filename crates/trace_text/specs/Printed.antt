@@ -12,8 +12,8 @@ use Rattle.bq_model.specs.declared.op.Answer.TheVariants.{Got}
 use Rattle.bq_model.specs.Queue.{queue_after, answer_at_queue}
 use Rattle.bq_model.specs.Replay.{queue_from}
 use Rattle.text_lines.specs.Printed.{printed_lines}
+use Rattle.text_lines.specs.Parts.{◌>>=◌}
 use Rattle.trace_text.specs.declared.play.Refused.{Refused}
-use Rattle.trace_text.specs.HistoryText.{◌>>=◌}
 use Rattle.trace_text.specs.Played.{Playing, state_of, is_idle, refusals_of}
 use Rattle.trace_text.specs.ScheduleText.{machine_at_end, play_of}
 

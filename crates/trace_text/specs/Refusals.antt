@@ -1,3 +1,4 @@
+-- What a judge or a player of a text answers.
 use Rattle.std.specs.Prelude.{◌≡◌, Result, Ok, Err, ⊤}
 use Rattle.bq_model.specs.declared.fault.TextFault.{TextFault}
 use Rattle.bq_model.specs.declared.fault.TextRefused.{TextRefused}

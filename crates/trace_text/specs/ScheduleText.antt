@@ -1,6 +1,6 @@
 -- The text of a schedule: the header `bqplay 1`, the line `shape` with five numbers, and lines that start commands and
 -- make steps.
-use Rattle.std.specs.Prelude.{ℕ, ◌+◌, ◌-◌, ◌^◌, Bool, ◌&&◌, ◌||◌, List, [], ◌∷◌, length, Option, None, Some, Result, Ok, Err, ◌==◌, nat_le, nat_lt, codes, bytes_eq, option_map, option_and_then, if◌then◌else◌}
+use Rattle.std.specs.Prelude.{ℕ, ◌+◌, ◌-◌, ◌^◌, Bool, ◌||◌, List, [], ◌∷◌, length, Option, None, Some, Result, Ok, Err, ◌==◌, nat_lt, codes, bytes_eq, option_map, option_and_then, if◌then◌else◌}
 use Rattle.std.specs.List.{list_all}
 use Rattle.bq_model.specs.declared.fault.TextCause.{TextCause}
 use Rattle.bq_model.specs.declared.fault.TextCause.TheVariants.{BadWord}
@@ -8,14 +8,12 @@ use Rattle.bq_model.specs.declared.fault.TextFault.{TextFault}
 use Rattle.bq_model.specs.declared.op.Op.{Op}
 use Rattle.bq_model.specs.declared.op.Op.TheVariants.{Enq, Deq}
 use Rattle.bq_model.specs.declared.shape.Shape.{Shape}
-use Rattle.excess_count.specs.Excess.{enqueue_count}
 use Rattle.text_lines.specs.Lines.{lines_of}
 use Rattle.text_lines.specs.Number.{number_of}
 use Rattle.text_lines.specs.Reading.{text_state, fault}
 use Rattle.text_lines.specs.Words.{begins_with}
-use Rattle.trace_text.specs.Claims.{or_bad_number}
-use Rattle.trace_text.specs.Each.{each_of}
-use Rattle.trace_text.specs.HistoryText.{◌>>=◌}
+use Rattle.text_lines.specs.Each.{each_of}
+use Rattle.text_lines.specs.Parts.{or_bad_number, ◌>>=◌}
 use Rattle.trace_text.specs.Kinds.{is_kind}
 use Rattle.trace_text.specs.Played.{Playing, begun, ran}
 use Rattle.trace_text.specs.Shapes.{shape_with}
@@ -45,9 +43,9 @@ abbrev pub op_of : List ℕ → Option Op
 op_of [] = None
 op_of (letter ∷ rest) = if letter == 101 then option_map Enq (number_of rest) else Some Deq
 
--- one operation, or several with an enqueue among them
+-- a command has an operation
 abbrev pub is_startable : List Op → Bool
-is_startable ops = nat_lt 0 (length ops) && (nat_le (length ops) 1 || nat_lt 0 (enqueue_count ops))
+is_startable ops = nat_lt 0 (length ops)
 
 abbrev pub startable : List Op → Result (List Op) TextCause
 startable ops = if is_startable ops then Ok ops else Err BadWord

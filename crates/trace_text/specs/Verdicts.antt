@@ -8,11 +8,12 @@ use Rattle.bq_model.specs.declared.fault.TextFault.{TextFault}
 use Rattle.bq_model.specs.Replay.{answers_from}
 use Rattle.bq_model.specs.History.{last_queue}
 use Rattle.bq_model.specs.Own.{mine}
+use Rattle.text_lines.specs.Parts.{◌>>=◌}
 use Rattle.trace_text.specs.declared.claim.Entry.{Entry}
 use Rattle.trace_text.specs.declared.verdict.Verdict.{Verdict}
 use Rattle.trace_text.specs.declared.verdict.Verdict.TheVariants.{Legal, Illegal}
 use Rattle.trace_text.specs.Claims.{group_of, claimed}
-use Rattle.trace_text.specs.HistoryText.{History, LinesSay, operation_count, history_at_end, hist_of, ◌>>=◌}
+use Rattle.trace_text.specs.HistoryText.{History, LinesSay, operation_count, history_at_end, hist_of}
 
 -- the groups of entries
 abbrev pub groups_of : List Entry → List Group

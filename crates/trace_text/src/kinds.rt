@@ -1,6 +1,6 @@
 // The words for the kinds of step.
 ghost use Rattle.std.specs.Prelude.{◌≡◌};
-ghost use Rattle.trace_text.specs.Kinds.{kind_name, is_plain_kind, is_batch_kind, is_kind};
+ghost use Rattle.trace_text.specs.Kinds.{kind_name, is_plain_kind, is_batch_kind, is_alone_kind, is_kind};
 
 use step_core::StepKind;
 
@@ -25,6 +25,9 @@ pub(crate) fn kind_name(kind: StepKind) -> &'static [u8]
         StepKind::RecordTail => b"record_tail",
         StepKind::MoveTailOver => b"move_tail_over",
         StepKind::MoveHeadAnn => b"move_head_ann",
+        StepKind::MoveHeadMany => b"move_head_many",
+        StepKind::LinkStopper => b"link_stopper",
+        StepKind::Decide => b"decide",
     }
 }
 
@@ -32,7 +35,7 @@ pub(crate) fn kind_name(kind: StepKind) -> &'static [u8]
 pub(crate) fn is_kind(word: &[u8]) -> bool
     ensures { result ≡ is_kind word.now }
 {
-    is_plain_kind(word) || is_batch_kind(word)
+    is_plain_kind(word) || is_batch_kind(word) || is_alone_kind(word)
 }
 
 fn is_plain_kind(word: &[u8]) -> bool
@@ -59,4 +62,12 @@ fn is_batch_kind(word: &[u8]) -> bool
         || word == b"record_tail".as_slice()
         || word == b"move_tail_over".as_slice()
         || word == b"move_head_ann".as_slice()
+}
+
+fn is_alone_kind(word: &[u8]) -> bool
+    ensures { result ≡ is_alone_kind word.now }
+{
+    word == b"move_head_many".as_slice()
+        || word == b"link_stopper".as_slice()
+        || word == b"decide".as_slice()
 }

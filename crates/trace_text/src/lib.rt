@@ -15,13 +15,9 @@ mod history;
 mod kinds;
 mod laws;
 mod play;
-#[cfg(test)]
-mod play_tests;
 mod playing;
 mod print;
 mod schedule;
-#[cfg(test)]
-mod tests;
 mod verdict;
 
 pub use check::check_history;

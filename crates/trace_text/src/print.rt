@@ -1,8 +1,10 @@
 // The text of a machine.
-ghost use Rattle.std.specs.Prelude.{◌≡◌, ◌<◌, ◌++◌, ◌∷◌, [], codes, decimal, map, filter, not, IfOk, OnOk};
+ghost use Rattle.std.specs.Prelude.{◌≡◌, ◌<◌, ◌++◌, ◌∷◌, [], codes, decimal, map, filter, not, All, IfOk, OnOk};
+ghost use Rattle.bq_model.specs.Proper.{IsProper};
 ghost use Rattle.bq_model.specs.Replay.{queue_from};
 ghost use Rattle.text_lines.specs.Printed.{printed_line, printed_lines, spaced};
-ghost use Rattle.trace_text.specs.Played.{state_of, is_idle};
+ghost use Rattle.trace_text.specs.Played.{state_of, refusals_of, is_idle};
+ghost use Rattle.trace_text.specs.Ranges.{IsOpInRange, IsGroupInRange, IsRefusedInRange, IsFoundLegal};
 ghost use Rattle.trace_text.specs.Printed.{answer_word, op_words, group_words, group_lines, refused_line, unfinished_line, unfinished, play_text};
 
 use crate::fifo::Fifo;
@@ -14,7 +16,17 @@ use std::alloc::Global;
 /// The history of a machine with the answers of a single thread's queue, and comments on the commands that were refused
 /// and on those that have not ended.
 pub(crate) fn print_play(alloc: Global, play: &Play) -> Result<Text, OutOfMemory>
-    ensures { IfOk result (λ text. text ≡ play_text play.now) }
+    ensures text { IfOk result (λ text. text ≡ play_text play.now) }
+    ensures legal { IfOk result (λ text. IsFoundLegal (state_of play.now).history text) }
+{
+    print_all(alloc, play)
+}
+
+fn print_all(alloc: Global, play: &Play) -> Result<Text, OutOfMemory>
+    ensures text { IfOk result (λ text. text ≡ play_text play.now) }
+    ensures proper { OnOk result (IsProper play.now.shape.callers (state_of play.now).history) }
+    ensures in_range { OnOk result (All IsGroupInRange (state_of play.now).history) }
+    ensures refused_in_range { OnOk result (All IsRefusedInRange (refusals_of play.now)) }
 {
     let mut text = Text::new(alloc);
     text.append_parts(&[b"bqhist 1\n"])?;
@@ -35,7 +47,8 @@ fn print_callers(text: &mut Text, callers: u32) -> Result<(), OutOfMemory>
 
 // Prints groups with the answers of a queue that is empty at first, in one pass.
 fn print_groups(alloc: Global, text: &mut Text, history: &[Group]) -> Result<(), OutOfMemory>
-    ensures { OnOk result (text.new ≡ text.old ++ printed_lines (group_lines [] history.now)) }
+    ensures text { OnOk result (text.new ≡ text.old ++ printed_lines (group_lines [] history.now)) }
+    ensures in_range { OnOk result (All IsGroupInRange history.now) }
 {
     let mut queue = Fifo::new(alloc);
     for group in history {
@@ -47,6 +60,7 @@ fn print_groups(alloc: Global, text: &mut Text, history: &[Group]) -> Result<(),
 fn print_group(text: &mut Text, queue: &mut Fifo, group: &Group) -> Result<(), OutOfMemory>
     ensures text { OnOk result (text.new ≡ text.old ++ printed_line (group_words queue.old group.now)) }
     ensures queue { OnOk result (queue.new ≡ queue_from queue.old group.now.ops) }
+    ensures in_range { OnOk result (IsGroupInRange group.now) }
 {
     text.append_parts(&[b"group"])?;
     print_number(text, u64::from(group.caller))?;
@@ -59,6 +73,7 @@ fn print_group(text: &mut Text, queue: &mut Fifo, group: &Group) -> Result<(), O
 fn print_ops(text: &mut Text, queue: &mut Fifo, ops: &[Op]) -> Result<(), OutOfMemory>
     ensures text { OnOk result (text.new ≡ text.old ++ spaced (op_words queue.old ops.now)) }
     ensures queue { OnOk result (queue.new ≡ queue_from queue.old ops.now) }
+    ensures in_range { OnOk result (All IsOpInRange ops.now) }
 {
     for op in ops {
         let answer = queue.make(*op)?;
@@ -69,7 +84,8 @@ fn print_ops(text: &mut Text, queue: &mut Fifo, ops: &[Op]) -> Result<(), OutOfM
 
 // Appends a blank and an operation with its answer.
 fn print_op(text: &mut Text, op: Op, answer: Answer) -> Result<(), OutOfMemory>
-    ensures { OnOk result (text.new ≡ text.old ++ codes " " ++ answer_word op answer) }
+    ensures text { OnOk result (text.new ≡ text.old ++ codes " " ++ answer_word op answer) }
+    ensures in_range { OnOk result (IsOpInRange op) }
 {
     let mut buffer = Buffer::new();
     match (op, answer) {
@@ -88,7 +104,8 @@ fn print_number(text: &mut Text, number: u64) -> Result<(), OutOfMemory>
 }
 
 fn print_refusals(text: &mut Text, refused: &[Refused]) -> Result<(), OutOfMemory>
-    ensures { OnOk result (text.new ≡ text.old ++ printed_lines (map refused_line refused.now)) }
+    ensures text { OnOk result (text.new ≡ text.old ++ printed_lines (map refused_line refused.now)) }
+    ensures in_range { OnOk result (All IsRefusedInRange refused.now) }
 {
     for one in refused {
         print_refusal(text, *one)?;
@@ -97,7 +114,8 @@ fn print_refusals(text: &mut Text, refused: &[Refused]) -> Result<(), OutOfMemor
 }
 
 fn print_refusal(text: &mut Text, refused: Refused) -> Result<(), OutOfMemory>
-    ensures { OnOk result (text.new ≡ text.old ++ printed_line (refused_line refused)) }
+    ensures text { OnOk result (text.new ≡ text.old ++ printed_line (refused_line refused)) }
+    ensures in_range { OnOk result (IsRefusedInRange refused) }
 {
     text.append_parts(&[b"# refused"])?;
     print_number(text, u64::from(refused.caller))?;

@@ -1,6 +1,5 @@
 // What the lines of a schedule do, one after another.
-ghost use Rattle.std.specs.Prelude.{◌≡◌, ◌<◌, nat_lt, true, None, Some, IfSome, IfOk, MatchOption};
-ghost use Rattle.excess_count.specs.Excess.{enqueue_count};
+ghost use Rattle.std.specs.Prelude.{◌≡◌, ◌<◌, true, None, Some, IfSome, IfOk, MatchOption};
 ghost use Rattle.text_lines.specs.Refusals.{ReadsPart};
 ghost use Rattle.trace_text.specs.Shapes.{shape_with};
 ghost use Rattle.trace_text.specs.ScheduleText.{shape_of, shape_in, caller_of, is_op_word, op_of, op_words_of, ops_of, is_startable};
@@ -207,27 +206,16 @@ fn shape_with(callers: u64, batch: u64, room: u64, allowance: u64, first: u64) -
     Shape::new(callers as u32, batch as u32, room as u32, allowance, first)
 }
 
-// The operations of a command: one, or several with an enqueue among them.
+// The operations of a command, at least one.
 fn read_ops(alloc: Global, words: Words) -> Result<Ops, LineRefused>
     ensures ops { ReadsPart (ops_of words.entry) result }
     ensures startable { IfOk result (λ ops. is_startable ops ≡ true) }
 {
     let ops = read_op_words(alloc, words)?;
-    if ops.len() == 1 || has_enqueue(ops.as_slice()) {
-        return Ok(ops);
+    if ops.len() == 0 {
+        return Err(BAD_WORD);
     }
-    Err(BAD_WORD)
-}
-
-fn has_enqueue(ops: &[Op]) -> bool
-    ensures { result ≡ nat_lt 0 (enqueue_count ops.now) }
-{
-    for op in ops {
-        if let Op::Enq(_) = op {
-            return true;
-        }
-    }
-    false
+    Ok(ops)
 }
 
 // A wrong letter comes before a wrong number.

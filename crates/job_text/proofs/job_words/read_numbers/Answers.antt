@@ -1,6 +1,6 @@
 use Rattle.text_lines.specs.Number.{number_of}
-use Rattle.job_text.specs.Each.{each_of}
-use Rattle.job_text.proofs.EachLemmas.{onto-nil, each_of-more, each_of-fails, each_of-done}
+use Rattle.text_lines.specs.Each.{each_of}
+use Rattle.text_lines.proofs.EachLemmas.{onto-nil, each_of-more, each_of-fails, each_of-done}
 use Rattle.job_text.proofs.job_words.read_numbers.Goals as goal
 
 pub loop-word-init : goal.loop-word-init

@@ -1,7 +1,7 @@
 use Rattle.std.proofs.Common.{◌≡◌}
 use Rattle.text_lines.specs.Number.{number_of}
-use Rattle.job_text.specs.Each.{each_of}
-use Rattle.job_text.proofs.EachLemmas.{onto}
+use Rattle.text_lines.specs.Each.{each_of}
+use Rattle.text_lines.proofs.EachLemmas.{onto}
 use Rattle.job_text.proofs.job_words.read_numbers.Given as goal
 
 -- the numbers so far and those of the words that are left are those of all words

@@ -1,6 +1,7 @@
 use Rattle.std.proofs.Common.{Result, Ok, ap}
 use Rattle.bq_model.specs.declared.fault.TextFault.{TextFault}
-use Rattle.trace_text.specs.HistoryText.{History, ◌>>=◌}
+use Rattle.text_lines.specs.Parts.{◌>>=◌}
+use Rattle.trace_text.specs.HistoryText.{History}
 use Rattle.trace_text.specs.Verdicts.{verdict_of}
 use Rattle.trace_text.specs.Played.{Playing}
 use Rattle.trace_text.specs.Printed.{play_text}

@@ -1,8 +1,8 @@
 use Rattle.std.proofs.Common.{◌≡◌, true, false, None}
 use Rattle.std.specs.List.{list_all}
 use Rattle.trace_text.specs.ScheduleText.{is_op_word, op_of}
-use Rattle.trace_text.specs.Each.{each_of}
-use Rattle.trace_text.proofs.EachLemmas.{onto}
+use Rattle.text_lines.specs.Each.{each_of}
+use Rattle.text_lines.proofs.EachLemmas.{onto}
 use Rattle.trace_text.proofs.schedule.read_op_words.Given as goal
 
 -- the claims so far and those of the words that are left are those of all words, where all numbers so far are right

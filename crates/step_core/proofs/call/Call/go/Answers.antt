@@ -1,6 +1,7 @@
-use Rattle.std.proofs.Common.{ap, ◌∙◌}
+use Rattle.std.proofs.Common.{rules, ◌≡◌, length, vec_len, refl, sym, ap, ◌∙◌, arith}
 use Rattle.core_model.specs.Step.{followed}
 use Rattle.step_core.specs.Calls.{call_of}
+use Rattle.step_core.proofs.Courses.{value_fits}
 use Rattle.step_core.proofs.call.Call.go.Goals as goal
 
 pub returns-in-GoesOn-clause-goes : goal.returns-in-GoesOn-clause-goes
@@ -17,3 +18,15 @@ returns-in-Reads-clause-goes c = let k = call_of c.args.self.now in c.read.ensur
 
 pub returns-in-ReadsMore-clause-goes : goal.returns-in-ReadsMore-clause-goes
 returns-in-ReadsMore-clause-goes c = let k = call_of c.args.self.now in c.read_more.ensures.reads ∙ ap (followed c.args.now c.args.caller k) c.in-ReadsMore.ensures
+
+pub returns-in-Walks-clause-goes : goal.returns-in-Walks-clause-goes
+returns-in-Walks-clause-goes c = let k = call_of c.args.self.now in c.walk.ensures.walks ∙ ap (followed c.args.now c.args.caller k) c.in-Walks.ensures
+
+pub returns-in-WalksMore-clause-goes : goal.returns-in-WalksMore-clause-goes
+returns-in-WalksMore-clause-goes c = let k = call_of c.args.self.now in c.walk_on.ensures.walks ∙ ap (followed c.args.now c.args.caller k) c.in-WalksMore.ensures
+
+pub returns-in-Answers-clause-goes : goal.returns-in-Answers-clause-goes
+returns-in-Answers-clause-goes c = let k = call_of c.args.self.now in c.answer.ensures.ended ∙ ap (followed c.args.now c.args.caller k) c.in-Answers.ensures
+
+pub walk_on-requires-clause-room : goal.walk_on-requires-clause-room
+walk_on-requires-clause-room c = let k = c.args.self.now in let fits = value_fits k c.requires c.args.found c.in-WalksMore.point c.in-WalksMore.value k.point refl (sym c.in-WalksMore.ensures) in let ready = c.requires.may_end.ready.values in let n : length k.values.items ≡ vec_len k.values = search rules in omega arith

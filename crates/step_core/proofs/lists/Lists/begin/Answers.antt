@@ -12,14 +12,15 @@ use Rattle.step_core.specs.Words.{memory_of}
 use Rattle.step_core.proofs.Callers.{caller_is, callers_set}
 use Rattle.step_core.proofs.Sound.{put_sound, due_within}
 use Rattle.step_core.proofs.lists.Lists.begin.Goals as goal
+use Rattle.excess_count.specs.declared.counts.Counts.{Counts}
 
 pub returns-clause-callers : goal.returns-clause-callers
 returns-clause-callers c = let a = c.args.self.now in let ks = a.calls.items in let who = c.args.caller in let ops = c.args.ops in let z = lane_sizes a.shape in let k = callers_of ks who in
     let before = sym (caller_is ks who c.index_mut-call.result.now (search rules) c.index_mut-call.ensures.value) in let now = c.len-now.ensures in
-    let point = c.first_point-point.ensures k (sym c.stock-stock.ensures.taken) (sym c.stock-stock.ensures.made) (sym c.stock-stock.ensures.batch) ∙ ap (first_point z who k) c.as_slice.ensures in
-    let taken = c.stock-stock.ensures.taken in let made = c.stock-stock.ensures.made in let anns = c.anns_taken.ensures.taken ops c.len.ensures in
+    let point = c.first_point-point.ensures k (sym c.stock-stock.ensures.taken) (sym c.stock-stock.ensures.stopped) (sym c.stock-stock.ensures.made) (sym c.stock-stock.ensures.batch) ∙ ap (first_point z who k) c.as_slice.ensures in
+    let taken = c.stock-stock.ensures.taken in let made = c.stock-stock.ensures.made in let anns = c.anns_taken.ensures.taken ops c.len-operations.ensures in let stopped = c.stock-stock.ensures.stopped in let stops = c.stoppers_taken.ensures.taken ops c.len-operations.ensures (ap (λ (n : Counts). n.enqs) c.requires.counts) in
     callers_set ks who c.begin.new.self (search rules)
-    ∙ ap (put (callers_of ks) who) (c.begin.ensures.begins ∙ λ i. record (before i) { point = point i; ops = ops; taken = taken i + (c.requires.counts i).enqs; made = made i + anns i; values = []; started_at = now i; ended_at = None })
+    ∙ ap (put (callers_of ks) who) (c.begin.ensures.begins ∙ λ i. record (before i) { point = point i; ops = ops; taken = taken i + (c.requires.counts i).enqs; stopped = stopped i + stops i; made = made i + anns i; values = []; started_at = now i; ended_at = None })
 
 pub returns-clause-sound : goal.returns-clause-sound
 returns-clause-sound c = let a = c.args.self.now in let ks = a.calls.items in let who = c.args.caller in let ops = c.args.ops in let S = c.requires.sound in let n : length a.history.items ≡ vec_len a.history = search rules in

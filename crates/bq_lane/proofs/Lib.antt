@@ -1,0 +1,13 @@
+pub mod Walks
+pub mod Advances
+pub mod Continues
+pub mod Applies
+pub mod Grown
+pub mod Makes
+pub mod NewPasses
+pub mod Passes
+pub mod Gathers
+pub mod Enqueued
+pub mod Commands
+pub mod Calls
+pub mod Refusals

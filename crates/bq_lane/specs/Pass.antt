@@ -1,0 +1,65 @@
+-- What contracts see of a lane and of a pass, and what a pass keeps between two calls.
+use Rattle.std.specs.Prelude.{◌≡◌, ℕ, ◌≤◌, ◌<◌, List, [], ◌∷◌, length, map}
+use Rattle.atomic_table.specs.Seated.{TableId}
+use Rattle.atomic_table.specs.Table.{Me}
+use Rattle.bq_model.specs.declared.group.Group.{Group}
+use Rattle.bq_model.specs.declared.shape.Shape.{Shape}
+use Rattle.bq_model.specs.History.{operations}
+use Rattle.bq_model.specs.Own.{mine}
+use Rattle.bq_model.specs.Proper.{IsProper}
+use Rattle.core_model.specs.declared.point.Point.TheVariants.{Idle}
+use Rattle.core_model.specs.declared.start.Stock.{Stock}
+use Rattle.core_model.specs.LaneSizes.{lane_sizes}
+use Rattle.core_model.specs.Lawful.{Allowed}
+use Rattle.lane_rule.specs.declared.view.Kept.{Kept}
+use Rattle.lane_rule.specs.declared.view.View.{View}
+use Rattle.lane_rule.specs.declared.view.Kind.TheVariants.{Alone, Gathered}
+use Rattle.lane_rule.specs.Seating.{held_as, Holds, Idles}
+
+-- a lane: its table and its shape
+pub record LaneState : Type 0 where
+  pub table : TableId
+  pub shape : Shape
+
+-- a pass: its lane's table and shape, the callers that it holds, and the history that these have seen
+pub record PassState : Type 0 where
+  pub table : TableId
+  pub shape : Shape
+  pub callers : List ℕ
+  pub seen : List Group
+
+-- the pass of a caller that has made nothing
+abbrev pub new_pass : TableId → Shape → ℕ → PassState
+new_pass table shape c = record { table = table; shape = shape; callers = c ∷ []; seen = [] }
+
+-- the callers of a view
+abbrev pub callers_of : View → List ℕ
+callers_of v = map (λ h. h.caller) (held_as v.kind v)
+
+-- Of the one caller of a view, which is idle: its number, what it took of its rows, stoppers and announcements, how many
+-- groups it made, and how many operations these have.
+pub record Counted (shape : Shape) (v : View) (caller : ℕ) (stock : Stock) (operated : ℕ) : Type 0 where
+  pub caller_is : caller ≡ v.caller
+  pub known : v.caller < shape.callers
+  pub taken : stock.taken ≡ v.kept.taken
+  pub stopped : stock.stopped ≡ v.kept.stopped
+  pub made : stock.made ≡ v.kept.made
+  pub batch : stock.batch ≡ length v.kept.mine
+  pub operated_is : operated ≡ length (operations v.kept.mine)
+  -- each group has an operation
+  pub batch_within : stock.batch ≤ operated
+  pub allowed : Allowed (lane_sizes shape) v.kept.mine [] v.kept.taken v.kept.stopped v.kept.made
+
+-- The seat of a pass between two calls. There is room for the values that a batch enqueues, and for those that it gets.
+pub record Rests (me : Me ℕ View) (shape : Shape) (caller : ℕ) (stock : Stock) (operated puts_room values_room : ℕ) : Type 0 where
+  pub carries_none : me.1 ≡ []
+  pub heard_none : me.0.heard ≡ []
+  pub planned : me.0.shape ≡ shape
+  pub between_calls : Idles me.0.kind
+  pub several : me.0.kind ≡ Gathered → 2 ≤ length me.0.gathered
+  pub proper : IsProper shape.callers me.0.seen
+  -- each of its callers is idle, and what it has seen has of it the groups that it made
+  pub own : (c : ℕ) (k : Kept) → Holds c k (held_as me.0.kind me.0) → (k.point ≡ Idle) × (mine me.0.seen c ≡ k.mine)
+  pub alone : me.0.kind ≡ Alone → Counted shape me.0 caller stock operated
+  pub puts : shape.batch ≤ puts_room
+  pub values : shape.batch ≤ values_room

@@ -1,0 +1,226 @@
+// A lane without locks, with its calls.
+ghost use Rattle.std.specs.Prelude.{◌≡◌, ◌≢◌, ◌↔◌, ◌⊎◌, ◌<◌, ◌≤◌, [], ◌∷◌, length, IfOk, IsErrOf, OnOk, OnErr};
+ghost use Rattle.atomic_table.specs.Seated.{TableId};
+ghost use Rattle.bq_model.specs.declared.op.Op.{Op};
+ghost use Rattle.bq_model.specs.declared.op.Answer.{Answer};
+ghost use Rattle.bq_model.specs.Proper.{IsProper};
+ghost use Rattle.bq_model.specs.Grows.{the_caller, Grew, SawMore, AtSomePoint};
+ghost use Rattle.bq_model.specs.Rooms.{PassesAllowance};
+ghost use Rattle.excess_count.specs.Excess.{enqueue_count};
+ghost use Rattle.bq_lane.specs.Rooms.{LacksRoom, IsFull};
+
+use crate::drive::perform;
+use crate::make::{make_passes, opening_words};
+use crate::pass::{Book, Pass, Seated};
+use crate::start::{fill_puts, has_rows};
+use atomic_table::Table;
+use bq_model::{Answer, Answers, Batch, Lane, Op, OutOfMemory, Refusal, Shape};
+use core_model::{anns_taken, stoppers_taken};
+use excess_count::count;
+use lane_rule::{LaneRule, View};
+use std::alloc::Global;
+use std::marker::Model;
+use std::sync::Wait;
+
+/// A queue that its callers share without locks, on the words of one table.
+#[derive(Drop)]
+pub struct BqLane {
+    table: Table<u64, View, Shape, LaneRule, Global>,
+    shape: Shape,
+}
+
+impl Model for BqLane {
+    ghost use Rattle.std.specs.Prelude.{◌≡◌};
+    ghost use Rattle.word_rows.specs.Sizes.{words_of};
+    ghost use Rattle.bq_lane.specs.Pass.{LaneState};
+
+    ghost Value = { LaneState };
+
+    ghost view = { λ l. record { table = l.table.shared.table_id; shape = l.shape } };
+
+    ghost invariant = { λ l. (l.table.shared.key ≡ l.shape) × (l.table.shared.table_id.words ≡ words_of l.shape) };
+}
+
+impl BqLane {
+    // Makes operations of the seat's one caller as one command.
+    fn make_ops<R: Wait>(
+        &self,
+        rt: &R,
+        seated: &mut Seated,
+        ops: &[Op],
+        out: &mut Answers,
+    ) -> Result<(), Refusal>
+        requires of_this_lane { (seated.old.table ≡ self.now.table) × (seated.old.shape ≡ self.now.shape) }
+        requires one_caller { length seated.old.callers ≡ 1 }
+        requires some_operation { ops.now ≢ [] }
+        requires not_too_long { length ops.now ≤ self.now.shape.batch }
+        requires room_for_answers { length ops.now ≤ out.old.capacity }
+        ensures ok { OnOk result (Grew (the_caller seated.old.callers) ops.now out.new.items seated.old.seen seated.new.seen) }
+        ensures refusal_changes_nothing { OnErr result (seated.new ≡ seated.old) }
+        ensures no_answers_when_refused { OnErr result (out.new.items ≡ []) }
+        ensures capacity_stays { out.new.capacity ≡ out.old.capacity }
+        ensures spent { IsErrOf result Refusal.Spent ↔ PassesAllowance self.now.shape seated.old.seen (the_caller seated.old.callers) ops.now }
+        ensures full { IsErrOf result Refusal.Full ↔ IsFull self.now.shape seated.old.seen (the_caller seated.old.callers) ops.now }
+        ensures fills { IsErrOf result Refusal.Full → (1 < length ops.now) ⊎ (0 < enqueue_count ops.now) }
+        ensures proper { IsProper self.now.shape.callers seated.new.seen }
+        ensures pass_stays { (seated.new.table ≡ seated.old.table) × (seated.new.shape ≡ seated.old.shape) × (seated.new.callers ≡ seated.old.callers) }
+    {
+        let operations = ops.len() as u64;
+        if seated.operated + operations > self.shape.allowance() {
+            out.clear();
+            return Err(Refusal::Spent);
+        }
+        let counts = count(ops);
+        if !has_rows(&self.shape, seated.stock, counts.enqs, ops.len()) {
+            out.clear();
+            return Err(Refusal::Full);
+        }
+        fill_puts(&mut seated.puts, ops);
+        seated.values.clear();
+        let first = seated.stock.first_point(
+            &self.shape,
+            seated.caller,
+            ops,
+            counts,
+            seated.puts.as_slice(),
+        );
+        perform(
+            rt,
+            &self.table.shared,
+            &self.shape,
+            &mut seated.token,
+            first,
+            ops,
+            seated.puts.as_slice(),
+            &mut seated.values,
+            out,
+        );
+        seated.stock.taken += counts.enqs;
+        seated.stock.stopped += stoppers_taken(ops.len(), counts.enqs);
+        seated.stock.made += anns_taken(ops.len());
+        seated.stock.batch += 1;
+        seated.operated += operations;
+        Ok(())
+    }
+}
+
+impl Lane for BqLane {
+    type Pass = Pass;
+
+    type Book = Book;
+
+    ghost Identity = { TableId };
+
+    ghost identity = { λ lane. lane.table };
+
+    ghost lane_shape = { λ lane. lane.shape };
+
+    ghost pass_identity = { λ pass. pass.table };
+
+    ghost pass_shape = { λ pass. pass.shape };
+
+    ghost callers = { λ pass. pass.callers };
+
+    ghost seen = { λ pass. pass.seen };
+
+    ghost history = { λ book. book };
+
+    ghost may_fill = { LacksRoom };
+
+    fn make(alloc: Global, shape: &Shape) -> Result<(Self, Vec<Pass>), OutOfMemory> {
+        let words = opening_words(alloc, shape)?;
+        let (table, mut maker) = Table::of_words(alloc, words.as_slice(), shape)?;
+        let passes = make_passes(alloc, &table.shared, &mut maker, shape)?;
+        Ok((
+            BqLane {
+                table,
+                shape: *shape,
+            },
+            passes,
+        ))
+    }
+
+    fn caller(pass: &Pass) -> u32 {
+        pass.seated.caller()
+    }
+
+    fn made(pass: &Pass) -> u64 {
+        pass.seated.made()
+    }
+
+    fn apply<R: Wait>(
+        &self,
+        rt: &R,
+        pass: &mut Pass,
+        batch: &Batch,
+        out: &mut Answers,
+    ) -> Result<(), Refusal>
+        requires of_this_lane { (pass.old.table ≡ self.now.table) × (pass.old.shape ≡ self.now.shape) }
+        requires one_caller { length pass.old.callers ≡ 1 }
+        requires some_operation { batch.now.items ≢ [] }
+        requires not_too_long { length batch.now.items ≤ self.now.shape.batch }
+        requires room_for_answers { length batch.now.items ≤ out.old.capacity }
+        ensures ok { OnOk result (Grew (the_caller pass.old.callers) batch.now.items out.new.items pass.old.seen pass.new.seen) }
+        ensures refused { OnErr result (SawMore (the_caller pass.old.callers) pass.old.seen pass.new.seen) }
+        ensures no_answers_when_refused { OnErr result (out.new.items ≡ []) }
+        ensures capacity_stays { out.new.capacity ≡ out.old.capacity }
+        ensures spent { IsErrOf result Refusal.Spent ↔ PassesAllowance self.now.shape pass.old.seen (the_caller pass.old.callers) batch.now.items }
+        ensures full { IsErrOf result Refusal.Full → AtSomePoint (λ point. LacksRoom self.now.shape point (the_caller pass.old.callers) batch.now.items) pass.old.seen pass.new.seen }
+        ensures proper { IsProper self.now.shape.callers pass.new.seen }
+        ensures pass_stays { (pass.new.table ≡ pass.old.table) × (pass.new.shape ≡ pass.old.shape) × (pass.new.callers ≡ pass.old.callers) }
+
+        // What the caller itself has made decides of Full, and a refusal touches nothing.
+        ensures full_by_its_own { IsErrOf result Refusal.Full ↔ IsFull self.now.shape pass.old.seen (the_caller pass.old.callers) batch.now.items }
+        ensures refusal_changes_nothing { OnErr result (pass.new ≡ pass.old) }
+    {
+        self.make_ops(rt, &mut pass.seated, batch.as_slice(), out)
+    }
+
+    fn enqueue<R: Wait>(&self, rt: &R, pass: &mut Pass, v: u64) -> Result<(), Refusal>
+        requires of_this_lane { (pass.old.table ≡ self.now.table) × (pass.old.shape ≡ self.now.shape) }
+        requires one_caller { length pass.old.callers ≡ 1 }
+        ensures ok { OnOk result (Grew (the_caller pass.old.callers) (Op.Enq v ∷ []) (Answer.Done ∷ []) pass.old.seen pass.new.seen) }
+        ensures refused { OnErr result (SawMore (the_caller pass.old.callers) pass.old.seen pass.new.seen) }
+        ensures spent { IsErrOf result Refusal.Spent ↔ PassesAllowance self.now.shape pass.old.seen (the_caller pass.old.callers) (Op.Enq v ∷ []) }
+        ensures full { IsErrOf result Refusal.Full → AtSomePoint (λ point. LacksRoom self.now.shape point (the_caller pass.old.callers) (Op.Enq v ∷ [])) pass.old.seen pass.new.seen }
+        ensures proper { IsProper self.now.shape.callers pass.new.seen }
+        ensures pass_stays { (pass.new.table ≡ pass.old.table) × (pass.new.shape ≡ pass.old.shape) × (pass.new.callers ≡ pass.old.callers) }
+        ensures full_by_its_own { IsErrOf result Refusal.Full ↔ IsFull self.now.shape pass.old.seen (the_caller pass.old.callers) (Op.Enq v ∷ []) }
+        ensures refusal_changes_nothing { OnErr result (pass.new ≡ pass.old) }
+    {
+        self.make_ops(rt, &mut pass.seated, &[Op::Enq(v)], &mut pass.answer)
+    }
+
+    fn dequeue<R: Wait>(&self, rt: &R, pass: &mut Pass) -> Result<Answer, Refusal>
+        requires of_this_lane { (pass.old.table ≡ self.now.table) × (pass.old.shape ≡ self.now.shape) }
+        requires one_caller { length pass.old.callers ≡ 1 }
+        ensures ok { IfOk result (λ answer. Grew (the_caller pass.old.callers) (Op.Deq ∷ []) (answer ∷ []) pass.old.seen pass.new.seen) }
+        ensures refused { OnErr result (SawMore (the_caller pass.old.callers) pass.old.seen pass.new.seen) }
+        ensures spent { IsErrOf result Refusal.Spent ↔ PassesAllowance self.now.shape pass.old.seen (the_caller pass.old.callers) (Op.Deq ∷ []) }
+        ensures never_full { ¬ IsErrOf result Refusal.Full }
+        ensures proper { IsProper self.now.shape.callers pass.new.seen }
+        ensures pass_stays { (pass.new.table ≡ pass.old.table) × (pass.new.shape ≡ pass.old.shape) × (pass.new.callers ≡ pass.old.callers) }
+        ensures refusal_changes_nothing { OnErr result (pass.new ≡ pass.old) }
+    {
+        match self.make_ops(rt, &mut pass.seated, &[Op::Deq], &mut pass.answer) {
+            Ok(()) => Ok(pass.answer.get(0)),
+            Err(refusal) => Err(refusal),
+        }
+    }
+
+    fn gather(&self, a: Pass, b: Pass) -> Pass {
+        let Pass { seated, answer } = a;
+        let Pass {
+            seated: other,
+            answer: _,
+        } = b;
+        Pass {
+            seated: seated.gather(&self.table.shared, other),
+            answer,
+        }
+    }
+
+    fn close(self, pass: Pass) -> Book {
+        Book::new(pass)
+    }
+}

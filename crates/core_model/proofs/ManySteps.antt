@@ -1,0 +1,276 @@
+-- Each step of several dequeues and no enqueue: the walk behind the dummy, and the words of the announcement.
+use Rattle.std.proofs.Common.{◌≡◌, ℕ, zero, suc, ◌+◌, ◌<◌, Bool, true, false, cond, List, [], ◌∷◌, ◌++◌, length, sym, refl, ap, ◌∙◌, subst, arith, le_refl, length-append, None, ◌-◌, leb}
+use Rattle.word_rows.specs.declared.place.Place.{Place}
+use Rattle.word_rows.specs.declared.head_word.HeadWord.{HeadWord}
+use Rattle.word_rows.specs.declared.head_word.HeadWord.TheVariants.{Node, Ann}
+use Rattle.word_rows.specs.declared.link_word.LinkWord.{LinkWord}
+use Rattle.word_rows.specs.declared.link_word.LinkWord.TheVariants.{Nil, Single, Chain, Shut}
+use Rattle.word_rows.specs.declared.location.Location.TheVariants.{Head, Link, Tail}
+use Rattle.word_rows.specs.declared.content.Content.TheVariants.{OfHead, OfLink, OfTail}
+use Rattle.core_model.specs.declared.course.Course.TheVariants.{GoesOn, Answers, WalksMore}
+use Rattle.core_model.specs.Functions.{run, put}
+use Rattle.core_model.specs.LaneSizes.{LaneSizes}
+use Rattle.core_model.specs.State.{Caller, State, write, head_in, command}
+use Rattle.core_model.specs.Act.{is_node, same_place, location}
+use Rattle.core_model.specs.Fact.{has_walked, written, head_written, is_walking}
+use Rattle.core_model.specs.Step.{step_with, step_at, stepped, stepped_with}
+use Rattle.core_model.specs.Facts.{Holds, AtPoint, AllAgree, stored_before, Each}
+use Rattle.core_model.specs.Ghost.{Ghost, World, joint}
+use Rattle.core_model.specs.Lawful.{Lawful, LinksIn}
+use Rattle.core_model.proofs.Rely.{third, fourth, world}
+use Rattle.core_model.proofs.Preserves.{known, stutters, changed, point_changes, stutters_with}
+use Rattle.std.proofs.lemmas.Bool.{leb-true}
+use mathlib.Core.Logic.{dite}
+use native.Mathlib.Decide.{dec_le}
+use Rattle.core_model.specs.declared.point.Point.TheVariants.{Idle}
+use Rattle.core_model.specs.Help.{help_of}
+use Rattle.core_model.proofs.Tails.{exchanges, with_memory}
+use Rattle.core_model.proofs.Lookups.{on_list, next_found, node_found, finds}
+use Rattle.bq_model.specs.declared.shape.Shape.{Shape}
+use Rattle.word_rows.specs.declared.content.Content.{Content}
+use Rattle.word_rows.specs.Contents.{MayHold}
+use Rattle.word_rows.specs.Fits.{limits_of, PlaceFits}
+use Rattle.core_model.specs.Coded.{PointFits, CourseFits}
+use Rattle.core_model.proofs.Fitting.{fresh_help, course_either}
+use Rattle.core_model.specs.declared.point.Point.TheVariants as point
+use Rattle.core_model.specs.declared.point.Back.TheVariants as back
+use Rattle.core_model.specs.declared.point.HelpPoint.TheVariants as help
+use Rattle.core_model.specs.declared.point.Draft.{Draft}
+use Rattle.core_model.specs.declared.point.ManyPoint.TheVariants as many
+use Rattle.word_rows.specs.declared.location.AnnField.{AnnField}
+use Rattle.word_rows.specs.declared.location.AnnField.TheVariants as field
+use Rattle.core_model.specs.declared.point.Notice.{Notice}
+use Rattle.core_model.specs.declared.point.ManyPoint.{ManyPoint}
+use Rattle.core_model.specs.declared.point.Point.{Point}
+use Rattle.core_model.specs.declared.point.BatchPoint.TheVariants as batch
+use Rattle.core_model.specs.Batch.{on_head}
+use Rattle.core_model.specs.Many as dequeues
+use Rattle.core_model.specs.Fits.{DraftFits}
+use Rattle.word_rows.specs.Sizes.{rows_of}
+use Rattle.core_model.proofs.Puts.{put_here, put_else, run_last}
+use Rattle.core_model.proofs.BatchRows.{ann_stored}
+use Rattle.core_model.proofs.ManyMoves.{preserves_many_dummy, preserves_move_head_many}
+
+module _ (z : LaneSizes) (s : State) (L : Lawful z s) (c : ℕ) where
+  abbrev G : Ghost
+  G = L.ghost
+
+  abbrev me : Caller
+  me = s.callers c
+
+  -- what was known of the draft, where it says another old head
+  on_dummy : (d : Draft) (p : Place) → Each z (world s L.ghost) c (dequeues.call_knows (command (s.callers c)) d) → Each z (world s L.ghost) c (dequeues.call_knows (command (s.callers c)) (on_head d p))
+  on_dummy d p f = (
+    f.0,
+    (
+      let x = f.1.0 in let y = x.describes in record {
+        known = x.known;
+        describes = record { counts = y.counts; number = y.number; order0 = y.order0; order1 = y.order1; order2 = y.order2; order3 = y.order3 };
+        some = x.some;
+        last = x.last;
+        taken = x.taken;
+        inside = x.inside;
+      },
+      (third f, (fourth f, tt)),
+    ),
+  )
+
+  -- it helps the announcement that it found in HEAD
+  ann_met : (d : Draft) (a n : ℕ) → s.memory.head ≡ Ann a n → Each z (world s L.ghost) c (dequeues.call_knows (command (s.callers c)) d) → Holds z (world s L.ghost) c (written d field.OldTail)
+      → Lawful z (changed s c (write s.memory Head (OfHead (Ann a n))) s.history (stepped (s.callers c) (point.Help (help_of a (back.Many d)) help.LoadOldHead)))
+  ann_met d a n is f w = stutters z s L c (point.Help (help_of a (back.Many d)) help.LoadOldHead) Head (OfHead (Ann a n)) (ap OfHead is)
+      (record { call = (finds z s L c a n is (back.Many d), (fourth f, (f.0, (f.1.0, (third f, (w, tt)))))); here = tt })
+
+  many_head : (d : Draft) (x : HeadWord) → s.memory.head ≡ x → AtPoint z (world s L.ghost) c (s.callers c) (point.Many d many.LoadHead) → Lawful z (step_with z s c (point.Many d many.LoadHead) (OfHead x))
+  many_head d (Node p) is f = let node = (node_found z s L c p is).1 in let count = ap (λ (q : Place). q.count) node in let w = f.here.0 in
+      stutters z s L c (point.Many (on_head d p) many.LoadDummy) Head (OfHead (Node p)) (ap OfHead is)
+      (record { call = on_dummy d p f.call; here = (record { fresh = w.fresh; owner = w.owner; fields = tt }, (on_list z s L c p G.head count (ap (λ (q : Place). q.row) node) (le_refl _) (omega arith), ((omega arith), tt))) })
+  many_head d (Ann a n) is f = ann_met d a n is f.call f.here.0
+
+  many_chained : (d : Draft) (x : HeadWord) → s.memory.head ≡ x → AtPoint z (world s L.ghost) c (s.callers c) (point.Many d many.LoadChained) → Lawful z (step_with z s c (point.Many d many.LoadChained) (OfHead x))
+  many_chained d (Node p) is f = stutters z s L c (point.Many d many.LoadHead) Head (OfHead (Node p)) (ap OfHead is) (record { call = f.call; here = f.here })
+  many_chained d (Ann a n) is f = ann_met d a n is f.call f.here.0
+
+  -- the link of the last row that was read names the next one, as long as the dummy is the dummy
+  next_on_walk : (p : Place) (vs : List ℕ) (r n : ℕ) (b : Bool) → s.memory.link r ≡ joint b n → n < z.rows → Holds z (world s L.ghost) c (has_walked p vs r) → Holds z (world s L.ghost) c (is_walking p vs n)
+  next_on_walk p vs r n b is inside w = record {
+    inside = inside;
+    seen = w.seen;
+    there = λ e. let y = w.there e in let le = y.0 in dite (dec_le (suc (length vs)) G.rest)
+        (λ below. (below, names (G.chained (G.head + length vs)) b (G.path (suc (G.head + length vs))) n (sym (L.list.rows.joined (G.head + length vs) (omega arith) (omega arith)) ∙ (ap s.memory.link y.1 ∙ is)), y.2))
+        (λ end. absurd (never b n (sym L.list.rows.last ∙ (ap (λ (j : ℕ). s.memory.link (G.path j)) (let same : G.head + G.rest ≡ G.head + length vs = omega arith in same) ∙ (ap s.memory.link y.1 ∙ is)))));
+  } where
+    names : (a b : Bool) (x n : ℕ) → joint a x ≡ joint b n → x ≡ n
+    names true true x n e = cc e
+    names false false x n e = cc e
+    names true false x n e = absurd (cc e)
+    names false true x n e = absurd (cc e)
+
+    never : (b : Bool) (x : ℕ) → Nil ≡ joint b x → ⊥
+    never true x e = cc e
+    never false x e = cc e
+
+  many_link : (d : Draft) (r l : ℕ) (x : LinkWord) → s.memory.link r ≡ x → AtPoint z (world s L.ghost) c (s.callers c) (point.Many d (many.LoadLink r l)) → Lawful z (step_with z s c (point.Many d (many.LoadLink r l)) (OfLink x))
+  many_link d r l Nil is f = stutters z s L c (point.Many d (many.StoreField field.OldHead)) (Link r) (OfLink Nil) (ap OfLink is) (record { call = f.call; here = (f.here.0, tt) })
+  many_link d r l (Single n) is f = stutters z s L c (point.Many d (many.LoadValue n l)) (Link r) (OfLink (Single n)) (ap OfLink is)
+      (record { call = f.call; here = (f.here.0, (next_on_walk d.notice.old_head me.values r n false is (subst (LinksIn z.rows) is (L.list.links r)) f.here.1.0, (third f.here, tt))) })
+  many_link d r l (Chain n) is f = stutters z s L c (point.Many d (many.LoadValue n l)) (Link r) (OfLink (Chain n)) (ap OfLink is)
+      (record { call = f.call; here = (f.here.0, (next_on_walk d.notice.old_head me.values r n true is (subst (LinksIn z.rows) is (L.list.links r)) f.here.1.0, (third f.here, tt))) })
+  many_link d r l Shut is f = stutters z s L c (point.Many d many.LoadHead) (Link r) (OfLink Shut) (ap OfLink is) (record { call = f.call; here = (f.here.0, tt) })
+
+  -- one value more
+  one_more : (p : Place) (vs : List ℕ) (r : ℕ) → Holds z (world s L.ghost) c (is_walking p vs r) → Holds z (world s L.ghost) c (has_walked p (vs ++ s.memory.value r ∷ []) r)
+  one_more p vs r w = let long = length-append vs (s.memory.value r ∷ []) in record {
+    inside = w.inside;
+    seen = w.seen;
+    there = λ e. let y = w.there e in let below = y.0 in (
+      omega arith,
+      ap G.path (let same : G.head + length (vs ++ s.memory.value r ∷ []) ≡ suc (G.head + length vs) = omega arith in same) ∙ y.1,
+      (λ k. y.2 k ++ s.memory.value (sym y.1 k) ∷ []) ∙ (ap (λ (j : ℕ). run (λ j. s.memory.value (G.path j)) (suc G.head) (length vs) ++ s.memory.value (G.path j) ∷ []) (let same : suc (G.head + length vs) ≡ suc G.head + length vs = omega arith in same)
+          ∙ (sym (run_last (λ j. s.memory.value (G.path j)) (suc G.head) (length vs)) ∙ ap (run (λ j. s.memory.value (G.path j)) (suc G.head)) (let same : suc (length vs) ≡ length (vs ++ s.memory.value r ∷ []) = omega arith in same))),
+    );
+  }
+
+  value_on : (d : Draft) (r l : ℕ) → AtPoint z (world s L.ghost) c (s.callers c) (point.Many d (many.LoadValue r l))
+      → AtPoint z (world s L.ghost) c (stepped_with (s.callers c) (point.Many d (dequeues.after_value r l)) ((s.callers c).values ++ s.memory.value r ∷ [])) (point.Many d (dequeues.after_value r l))
+  value_on d r zero f = let long = length-append me.values (s.memory.value r ∷ []) in let all = third f.here in record { call = f.call; here = (f.here.0, (one_more d.notice.old_head me.values r f.here.1.0, ((omega arith), tt))) }
+  value_on d r (suc l) f = let long = length-append me.values (s.memory.value r ∷ []) in let all = third f.here in record { call = f.call; here = (f.here.0, (one_more d.notice.old_head me.values r f.here.1.0, ((omega arith), tt))) }
+
+  -- the tail is far enough, or it lies before the new dummy
+  many_tail : (d : Draft) (r : ℕ) (b : Bool) → leb d.notice.counts.deqs (s.memory.tail.count - d.notice.old_head.count) ≡ b → AtPoint z (world s L.ghost) c (s.callers c) (point.Many d (many.LoadTail r))
+      → Lawful z (changed s c (write s.memory Tail (OfTail s.memory.tail)) s.history (stepped (s.callers c) (point.Many d (cond b (many.MoveHead r) (many.LoadBehind s.memory.tail)))))
+  many_tail d r true is f = let far = leb-true d.notice.counts.deqs (s.memory.tail.count - d.notice.old_head.count) is in let some = (fourth f.call).1 in let count = ap (λ (p : Place). p.count) L.list.tail.named in
+      stutters z s L c (point.Many d (many.MoveHead r)) Tail (OfTail s.memory.tail) refl (record { call = f.call; here = (f.here.0, (f.here.1.0, (third f.here, ((omega arith), tt)))) })
+  many_tail d r false is f = let within = L.list.tail.within in let from = L.list.tail.after_head in let count = ap (λ (p : Place). p.count) L.list.tail.named in
+      stutters z s L c (point.Many d (many.LoadBehind s.memory.tail)) Tail (OfTail s.memory.tail) refl
+      (record { call = f.call; here = (f.here.0, (on_list z s L c s.memory.tail G.tail count (ap (λ (p : Place). p.row) L.list.tail.named) from (omega arith), tt)) })
+
+  many_behind : (d : Draft) (p : Place) (x : LinkWord) → s.memory.link p.row ≡ x → AtPoint z (world s L.ghost) c (s.callers c) (point.Many d (many.LoadBehind p)) → Lawful z (step_with z s c (point.Many d (many.LoadBehind p)) (OfLink x))
+  many_behind d p Nil is f = stutters z s L c (point.Many d many.LoadHead) (Link p.row) (OfLink Nil) (ap OfLink is) (record { call = f.call; here = (f.here.0, tt) })
+  many_behind d p (Single n) is f = let next = next_found z s L c p n false f.here.1.0 is in stutters z s L c (point.Many d (many.PassTail p n)) (Link p.row) (OfLink (Single n)) (ap OfLink is) (record { call = f.call; here = (f.here.0, (next.0, (next.1, tt))) })
+  many_behind d p (Chain n) is f = stutters z s L c (point.Many d many.LoadChained) (Link p.row) (OfLink (Chain n)) (ap OfLink is) (record { call = f.call; here = (f.here.0, tt) })
+  many_behind d p Shut is f = stutters z s L c (point.Many d many.LoadHead) (Link p.row) (OfLink Shut) (ap OfLink is) (record { call = f.call; here = (f.here.0, tt) })
+
+  many_pass : (d : Draft) (p : Place) (n : ℕ) → (s.callers c).point ≡ point.Many d (many.PassTail p n) → Lawful z (step_at z s c (point.Many d (many.PassTail p n)))
+  many_pass d p n is = let f = known z s L c (point.Many d (many.PassTail p n)) is in exchanges z s L c p n (stepped (s.callers c) (point.Many d many.LoadHead)) f.here.1.0 (third f.here)
+      (λ memory l. let k = known z (with_memory z s L c memory) l c (point.Many d (many.PassTail p n)) is in point_changes z (with_memory z s L c memory) l c (point.Many d many.LoadHead) (record { call = k.call; here = (k.here.0, tt) })) (same_place s.memory.tail p) refl
+
+  -- a field of what the draft says is stored, where OldHead is stored already
+  module _ (d : Draft) (f : AnnField) (n : Notice) (next : AnnField) (agrees : AllAgree (stored_before next) (s.memory.old_tail d.ann) n d.notice) (same : n.old_head ≡ (s.memory.notice d.ann).old_head)
+      (w : Holds z (world s L.ghost) c (written d f)) (hw : Holds z (world s L.ghost) c (head_written d)) where
+    abbrev S : World
+    S = record { memory = record s.memory { notice = put s.memory.notice d.ann n }; history = s.history; ghost = L.ghost }
+
+    next_written : Holds z S c (written d next)
+    next_written = record { fresh = w.fresh; owner = w.owner; fields = subst (λ (y : Notice). AllAgree (stored_before next) (s.memory.old_tail d.ann) y d.notice) (sym (put_here s.memory.notice d.ann n)) agrees }
+
+    head_stays : Holds z S c (head_written d)
+    head_stays = record { fresh = w.fresh; owner = w.owner; old_head = ap (λ (y : Notice). y.old_head) (put_here s.memory.notice d.ann n) ∙ (same ∙ hw.old_head) }
+
+    -- the next field comes, or the install
+    field_said : Each z (world s L.ghost) c (dequeues.call_knows (command (s.callers c)) d) → (t : Point) → AtPoint z S c (stepped (s.callers c) t) t
+        → Lawful z (changed s c (record s.memory { notice = put s.memory.notice d.ann n }) s.history (stepped (s.callers c) t))
+    field_said call t knows = ann_stored z s L c d.ann w.fresh w.owner (put s.memory.notice d.ann n) s.memory.old_tail (λ x ne. put_else s.memory.notice d.ann n x ne) (λ _ _. refl) call.0.1 t knows
+
+  many_field : (d : Draft) (f : AnnField) → AtPoint z (world s L.ghost) c (s.callers c) (point.Many d (many.StoreField f)) → Lawful z (step_at z s c (point.Many d (many.StoreField f)))
+  many_field d field.OldHead f = let n : Notice = record (s.memory.notice d.ann) { old_head = d.notice.old_head } in let w = f.here.0 in
+      ann_stored z s L c d.ann w.fresh w.owner (put s.memory.notice d.ann n) s.memory.old_tail (λ x ne. put_else s.memory.notice d.ann n x ne) (λ _ _. refl) f.call.0.1 (point.Many d (many.StoreField field.OldTail))
+      (record { call = f.call; here = (record { fresh = w.fresh; owner = w.owner; fields = tt }, (record { fresh = w.fresh; owner = w.owner; old_head = ap (λ (y : Notice). y.old_head) (put_here s.memory.notice d.ann n) }, tt)) })
+  many_field d field.OldTail f = let w = f.here.0 in let hw = f.here.1.0 in
+      ann_stored z s L c d.ann w.fresh w.owner s.memory.notice (put s.memory.old_tail d.ann None) (λ _ _. refl) (λ x ne. put_else s.memory.old_tail d.ann None x ne) f.call.0.1 (point.Many d (many.StoreField field.First))
+      (record { call = f.call; here = (record { fresh = w.fresh; owner = w.owner; fields = (put_here s.memory.old_tail d.ann None, tt) }, (record { fresh = hw.fresh; owner = hw.owner; old_head = hw.old_head }, tt)) })
+  many_field d field.First f = let n : Notice = record (s.memory.notice d.ann) { first = d.notice.first } in let w = f.here.0 in let hw = f.here.1.0 in let a : AllAgree (stored_before field.Last) (s.memory.old_tail d.ann) n d.notice = (refl, w.fields) in
+      field_said d field.First n field.Last a refl w hw f.call (point.Many d (many.StoreField field.Last)) (record { call = f.call; here = (next_written d field.First n field.Last a refl w hw, (head_stays d field.First n field.Last a refl w hw, tt)) })
+  many_field d field.Last f = let n : Notice = record (s.memory.notice d.ann) { last = d.notice.last } in let w = f.here.0 in let hw = f.here.1.0 in let a : AllAgree (stored_before field.Counts) (s.memory.old_tail d.ann) n d.notice = (refl, w.fields) in
+      field_said d field.Last n field.Counts a refl w hw f.call (point.Many d (many.StoreField field.Counts)) (record { call = f.call; here = (next_written d field.Last n field.Counts a refl w hw, (head_stays d field.Last n field.Counts a refl w hw, tt)) })
+  many_field d field.Counts f = let n : Notice = record (s.memory.notice d.ann) { counts = d.notice.counts } in let w = f.here.0 in let hw = f.here.1.0 in let a : AllAgree (stored_before field.BatchNo) (s.memory.old_tail d.ann) n d.notice = (refl, w.fields) in
+      field_said d field.Counts n field.BatchNo a refl w hw f.call (point.Many d (many.StoreField field.BatchNo)) (record { call = f.call; here = (next_written d field.Counts n field.BatchNo a refl w hw, (head_stays d field.Counts n field.BatchNo a refl w hw, tt)) })
+  many_field d field.BatchNo f = let n : Notice = record (s.memory.notice d.ann) { number = d.notice.number } in let w = f.here.0 in let hw = f.here.1.0 in let a : AllAgree (stored_before field.Order0) (s.memory.old_tail d.ann) n d.notice = (refl, w.fields) in
+      field_said d field.BatchNo n field.Order0 a refl w hw f.call (point.Many d (many.StoreField field.Order0)) (record { call = f.call; here = (next_written d field.BatchNo n field.Order0 a refl w hw, (head_stays d field.BatchNo n field.Order0 a refl w hw, tt)) })
+  many_field d field.Order0 f = let n : Notice = record (s.memory.notice d.ann) { order0 = d.notice.order0 } in let w = f.here.0 in let hw = f.here.1.0 in let a : AllAgree (stored_before field.Order1) (s.memory.old_tail d.ann) n d.notice = (refl, w.fields) in
+      field_said d field.Order0 n field.Order1 a refl w hw f.call (point.Many d (many.StoreField field.Order1)) (record { call = f.call; here = (next_written d field.Order0 n field.Order1 a refl w hw, (head_stays d field.Order0 n field.Order1 a refl w hw, tt)) })
+  many_field d field.Order1 f = let n : Notice = record (s.memory.notice d.ann) { order1 = d.notice.order1 } in let w = f.here.0 in let hw = f.here.1.0 in let a : AllAgree (stored_before field.Order2) (s.memory.old_tail d.ann) n d.notice = (refl, w.fields) in
+      field_said d field.Order1 n field.Order2 a refl w hw f.call (point.Many d (many.StoreField field.Order2)) (record { call = f.call; here = (next_written d field.Order1 n field.Order2 a refl w hw, (head_stays d field.Order1 n field.Order2 a refl w hw, tt)) })
+  many_field d field.Order2 f = let n : Notice = record (s.memory.notice d.ann) { order2 = d.notice.order2 } in let w = f.here.0 in let hw = f.here.1.0 in let a : AllAgree (stored_before field.Order3) (s.memory.old_tail d.ann) n d.notice = (refl, w.fields) in
+      field_said d field.Order2 n field.Order3 a refl w hw f.call (point.Many d (many.StoreField field.Order3)) (record { call = f.call; here = (next_written d field.Order2 n field.Order3 a refl w hw, (head_stays d field.Order2 n field.Order3 a refl w hw, tt)) })
+  many_field d field.Order3 f = let n : Notice = record (s.memory.notice d.ann) { order3 = d.notice.order3 } in let w = f.here.0 in let hw = f.here.1.0 in let a : AllAgree (stored_before field.OldHead) (s.memory.old_tail d.ann) n d.notice = (refl, w.fields) in
+      field_said d field.Order3 n field.OldHead a refl w hw f.call (point.Batch d batch.Install)
+      (record { call = (f.call.0, (f.call.1.0, tt)); here = (head_stays d field.Order3 n field.OldHead a refl w hw, (third f.call, (next_written d field.Order3 n field.OldHead a refl w hw, tt))) })
+
+  -- each step of dequeues alone, until their announcement is installed
+  pub preserves_many : (d : Draft) (p : ManyPoint) → (s.callers c).point ≡ point.Many d p → Lawful z (step_at z s c (point.Many d p))
+  preserves_many d many.LoadHead is = many_head d s.memory.head refl (known z s L c (point.Many d many.LoadHead) is)
+  preserves_many d many.LoadDummy is = preserves_many_dummy z s L c d is
+  preserves_many d (many.LoadLink r l) is = many_link d r l (s.memory.link r) refl (known z s L c (point.Many d (many.LoadLink r l)) is)
+  preserves_many d (many.LoadValue r l) is = let f = known z s L c (point.Many d (many.LoadValue r l)) is in let u : Point = point.Many d (dequeues.after_value r l) in
+      stutters_with z s L c (point.Many d (many.LoadValue r l)) u (me.values ++ s.memory.value r ∷ []) (WalksMore u (s.memory.value r)) refl refl refl (λ _. refl) f.call.0.1 (value_on d r l f)
+  preserves_many d (many.LoadTail r) is = many_tail d r (leb d.notice.counts.deqs (s.memory.tail.count - d.notice.old_head.count)) refl (known z s L c (point.Many d (many.LoadTail r)) is)
+  preserves_many d (many.MoveHead r) is = preserves_move_head_many z s L c d r is
+  preserves_many d (many.LoadBehind p) is = many_behind d p (s.memory.link p.row) refl (known z s L c (point.Many d (many.LoadBehind p)) is)
+  preserves_many d (many.PassTail p n) is = many_pass d p n is
+  preserves_many d many.LoadChained is = many_chained d s.memory.head refl (known z s L c (point.Many d many.LoadChained) is)
+  preserves_many d (many.StoreField f) is = many_field d f (known z s L c (point.Many d (many.StoreField f)) is)
+
+-- and they go on with what fits
+module _ (s : Shape) where
+  head_fits : (d : Draft) (x : HeadWord) → DraftFits s d → MayHold s Head (OfHead x) → PointFits s (dequeues.after_head d x)
+  head_fits d (Node p) a m = let n = a.1 in (
+    (a.0, record { old_head = m.1; first = n.first; last = n.last; counts = n.counts; number = n.number; order0 = n.order0; order1 = n.order1; order2 = n.order2; order3 = n.order3 }),
+    tt,
+  )
+  head_fits d (Ann n k) a m = (fresh_help s n (back.Many d) m.1.0 a, tt)
+
+  chained_fits : (d : Draft) (x : HeadWord) → DraftFits s d → MayHold s Head (OfHead x) → PointFits s (dequeues.after_chained d x)
+  chained_fits d (Node p) a m = (a, tt)
+  chained_fits d (Ann n k) a m = (fresh_help s n (back.Many d) m.1.0 a, tt)
+
+  dummy_fits : (d : Draft) (r : ℕ) (x : LinkWord) → DraftFits s d → MayHold s (Link r) (OfLink x) → CourseFits s (dequeues.after_dummy d x)
+  dummy_fits d r Nil a m = tt
+  dummy_fits d r (Single n) a m = (a, m.1)
+  dummy_fits d r (Chain n) a m = (a, m.1)
+  dummy_fits d r Shut a m = (a, tt)
+
+  link_fits : (r l : ℕ) (x : LinkWord) → MayHold s (Link r) (OfLink x) → dequeues.fits s (dequeues.after_link l x)
+  link_fits r l Nil m = tt
+  link_fits r l (Single n) m = m.1
+  link_fits r l (Chain n) m = m.1
+  link_fits r l Shut m = tt
+
+  value_fits : (r l : ℕ) → r < rows_of s → dequeues.fits s (dequeues.after_value r l)
+  value_fits r zero a = a
+  value_fits r (suc l) a = a
+
+  behind_fits : (p : Place) (x : LinkWord) → PlaceFits (limits_of s) p → MayHold s (Link p.row) (OfLink x) → dequeues.fits s (dequeues.after_behind p x)
+  behind_fits p Nil a m = tt
+  behind_fits p (Single n) a m = (a, m.1)
+  behind_fits p (Chain n) a m = tt
+  behind_fits p Shut a m = tt
+
+  either_fits : (b : Bool) (p q : ManyPoint) → dequeues.fits s p → dequeues.fits s q → dequeues.fits s (cond b p q)
+  either_fits true p q a b = a
+  either_fits false p q a b = b
+
+  field_fits : (d : Draft) (f : AnnField) → DraftFits s d → PointFits s (dequeues.after_field d f)
+  field_fits d field.OldHead a = (a, tt)
+  field_fits d field.OldTail a = (a, tt)
+  field_fits d field.First a = (a, tt)
+  field_fits d field.Last a = (a, tt)
+  field_fits d field.Counts a = (a, tt)
+  field_fits d field.BatchNo a = (a, tt)
+  field_fits d field.Order0 a = (a, tt)
+  field_fits d field.Order1 a = (a, tt)
+  field_fits d field.Order2 a = (a, tt)
+  field_fits d field.Order3 a = (a, tt)
+
+  pub many_fits : (d : Draft) (p : ManyPoint) (x : Content) → DraftFits s d → dequeues.fits s p → MayHold s (location (dequeues.act d p)) x → CourseFits s (dequeues.course d p x)
+  many_fits d many.LoadHead (OfHead x) a b m = head_fits d x a m
+  many_fits d many.LoadDummy (OfLink x) a b m = dummy_fits d d.notice.old_head.row x a m
+  many_fits d (many.LoadLink r l) (OfLink x) a b m = (a, link_fits r l x m)
+  many_fits d (many.LoadValue r l) x a b m = (a, value_fits r l b)
+  many_fits d (many.LoadTail r) (OfTail x) a b m = (a, either_fits (leb d.notice.counts.deqs (x.count - d.notice.old_head.count)) (many.MoveHead r) (many.LoadBehind x) b m.1)
+  many_fits d (many.MoveHead r) x a b m = course_either s (is_node (head_in x) d.notice.old_head) (Answers d.notice.counts.deqs) (GoesOn (point.Many d many.LoadHead)) tt (a, tt)
+  many_fits d (many.LoadBehind p) (OfLink x) a b m = (a, behind_fits p x b m)
+  many_fits d (many.PassTail p r) x a b m = (a, tt)
+  many_fits d many.LoadChained (OfHead x) a b m = chained_fits d x a m
+  many_fits d (many.StoreField f) x a b m = field_fits d f a
+  many_fits _ _ _ _ _ m = absurd m.0

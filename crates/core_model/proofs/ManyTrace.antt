@@ -1,0 +1,190 @@
+-- Schedules of dequeues alone, by hand.
+use Rattle.std.proofs.Common.{◌≡◌, ℕ, zero, suc, ◌+◌, ◌*◌, ◌-◌, ◌/◌, Bool, true, false, cond, List, [], ◌∷◌, ◌++◌, refl, Some}
+use Rattle.bq_model.specs.declared.op.Op.{Op}
+use Rattle.bq_model.specs.declared.op.Op.TheVariants.{Enq, Deq}
+use Rattle.bq_model.specs.declared.op.Answer.TheVariants.{Got, Empty}
+use Rattle.bq_model.specs.declared.group.Group.{Group}
+use Rattle.excess_count.specs.Excess.{excess_of}
+use Rattle.word_rows.specs.declared.head_word.HeadWord.TheVariants.{Node}
+use Rattle.word_rows.specs.declared.link_word.LinkWord.TheVariants.{Chain, Single}
+use Rattle.core_model.specs.declared.point.Point.{Point}
+use Rattle.core_model.specs.declared.point.Point.TheVariants.{Idle}
+use Rattle.core_model.specs.declared.point.Point.TheVariants as point
+use Rattle.core_model.specs.declared.point.BatchPoint.TheVariants as batch
+use Rattle.core_model.specs.declared.point.ManyPoint.TheVariants as many
+use Rattle.core_model.specs.declared.point.HelpPoint.TheVariants as help
+use Rattle.core_model.specs.LaneSizes.{LaneSizes}
+use Rattle.core_model.specs.Notices.{place}
+use Rattle.core_model.specs.State.{State}
+use Rattle.core_model.specs.Step.{next}
+use Rattle.core_model.specs.Start.{start, opening}
+
+-- n callers with eight item rows and four stoppers each
+abbrev lane : ℕ → LaneSizes
+lane callers = record { callers = callers; first = 0; allowance = 100; rows = 1 + callers * 12; items = 8; first_row = λ c. 1 + c * 12; home = λ r. (r - 1) / 12 }
+
+-- n steps of caller c, and its steps until its next one is of this kind
+steps : LaneSizes → ℕ → ℕ → State → State
+steps z c zero s = s
+steps z c (suc n) s = steps z c n (next z s c)
+
+until : (Point → Bool) → LaneSizes → ℕ → ℕ → State → State
+until is z c zero s = s
+until is z c (suc n) s = cond (is (s.callers c).point) s (until is z c n (next z s c))
+
+installs : Point → Bool
+installs (point.Batch d batch.Install) = true
+installs _ = false
+
+decides : Point → Bool
+decides (point.Help h (help.Decide p)) = true
+decides _ = false
+
+links : Point → Bool
+links (point.Help h (help.LinkChain p)) = true
+links _ = false
+
+moves : Point → Bool
+moves (point.Many d (many.MoveHead r)) = true
+moves _ = false
+
+passes : Point → Bool
+passes (point.Many d (many.PassTail p r)) = true
+passes _ = false
+
+-- caller c runs these operations to the end
+abbrev runs : LaneSizes → ℕ → List Op → State → State
+runs z c ops s = steps z c 60 (start z s c ops)
+
+abbrev group : ℕ → ℕ → List Op → Group
+group c batch ops = record { caller = c; batch = batch; ops = ops }
+
+-- the values 1 and 2 of caller 0 are queued
+abbrev two_there : State
+two_there = runs (lane 2) 0 (Enq 2 ∷ []) (runs (lane 2) 0 (Enq 1 ∷ []) (opening (lane 2)))
+
+abbrev first_groups : List Group
+first_groups = group 0 0 (Enq 1 ∷ []) ∷ group 0 1 (Enq 2 ∷ []) ∷ []
+
+-- the value 9 comes between the walk and the announcement, so the batch is decided and no stopper is linked
+abbrev at_install : State
+at_install = until installs (lane 2) 0 60 (start (lane 2) two_there 0 (Deq ∷ Deq ∷ Deq ∷ []))
+
+abbrev late_value : State
+late_value = steps (lane 2) 0 60 (runs (lane 2) 1 (Enq 9 ∷ []) at_install)
+
+late_item : (late_value.history ≡ first_groups ++ group 1 0 (Enq 9 ∷ []) ∷ group 0 2 (Deq ∷ Deq ∷ Deq ∷ []) ∷ []) × ((late_value.callers 0).answers ≡ Got 1 ∷ Got 2 ∷ Got 9 ∷ [])
+    × ((late_value.callers 0).point ≡ Idle) × (late_value.memory.head ≡ Node (place 13 3)) × (late_value.memory.tail ≡ place 13 3)
+unfolding steps until installs next excess_of
+late_item = (refl, refl, refl, refl, refl)
+
+-- there is a step that decides
+deciding : decides ((until decides (lane 2) 0 60 (runs (lane 2) 1 (Enq 9 ∷ []) at_install)).callers 0).point ≡ true
+unfolding steps until installs decides next excess_of
+deciding = refl
+
+-- the stopper becomes the dummy, and the next value comes behind it
+abbrev too_few : State
+too_few = runs (lane 2) 0 (Deq ∷ Deq ∷ Deq ∷ []) two_there
+
+abbrev after_stopper : State
+after_stopper = runs (lane 2) 1 (Deq ∷ []) (runs (lane 2) 1 (Enq 9 ∷ []) too_few)
+
+by_stopper : ((too_few.callers 0).answers ≡ Got 1 ∷ Got 2 ∷ Empty ∷ []) × (too_few.memory.head ≡ Node (place 9 3)) × (too_few.memory.tail ≡ place 9 3) × (too_few.memory.link 2 ≡ Chain 9)
+unfolding steps next excess_of
+by_stopper = (refl, refl, refl, refl)
+
+behind_stopper : (after_stopper.history ≡ first_groups ++ group 0 2 (Deq ∷ Deq ∷ Deq ∷ []) ∷ group 1 0 (Enq 9 ∷ []) ∷ group 1 1 (Deq ∷ []) ∷ []) × ((after_stopper.callers 1).answers ≡ Got 9 ∷ [])
+unfolding steps next excess_of
+behind_stopper = (refl, refl)
+
+-- a walk that finds all its values moves the head once
+abbrev at_move : State
+at_move = until moves (lane 2) 0 60 (start (lane 2) two_there 0 (Deq ∷ Deq ∷ []))
+
+at_once : (moves (at_move.callers 0).point ≡ true) × (((next (lane 2) at_move 0).callers 0).answers ≡ Got 1 ∷ Got 2 ∷ []) × (((next (lane 2) at_move 0).callers 0).point ≡ Idle) × ((next (lane 2) at_move 0).memory.head ≡ Node (place 2 2))
+unfolding steps until moves next excess_of
+at_once = (refl, refl, refl, refl)
+
+-- on the empty queue all answers are Empty after two loads
+none_there : (((steps (lane 2) 0 2 (start (lane 2) (opening (lane 2)) 0 (Deq ∷ Deq ∷ []))).callers 0).answers ≡ Empty ∷ Empty ∷ []) × (((steps (lane 2) 0 2 (start (lane 2) (opening (lane 2)) 0 (Deq ∷ Deq ∷ []))).callers 0).point ≡ Idle)
+unfolding steps next
+none_there = (refl, refl)
+
+-- a tail that lags is moved, and the walk begins again
+abbrev lagging : State
+lagging = steps (lane 2) 1 4 (start (lane 2) (runs (lane 2) 1 (Enq 3 ∷ []) (opening (lane 2))) 1 (Enq 4 ∷ []))
+
+lag_passed : (passes ((until passes (lane 2) 0 60 (start (lane 2) lagging 0 (Deq ∷ Deq ∷ []))).callers 0).point ≡ true) × (((runs (lane 2) 0 (Deq ∷ Deq ∷ []) lagging).callers 0).answers ≡ Got 3 ∷ Got 4 ∷ [])
+unfolding steps until passes next excess_of
+lag_passed = (refl, refl)
+
+-- A helper decides for the owner: caller 0 stops right after its install, caller 1 brings a value and then dequeues.
+abbrev announced : State
+announced = next (lane 2) at_install 0
+
+abbrev helped : State
+helped = runs (lane 2) 1 (Deq ∷ []) (runs (lane 2) 1 (Enq 9 ∷ []) announced)
+
+helper_decides : (helped.history ≡ first_groups ++ group 1 0 (Enq 9 ∷ []) ∷ group 0 2 (Deq ∷ Deq ∷ Deq ∷ []) ∷ group 1 1 (Deq ∷ []) ∷ []) × ((helped.callers 1).answers ≡ Empty ∷ []) × ((helped.callers 0).mine ≡ first_groups)
+unfolding steps until installs next excess_of
+helper_decides = (refl, refl, refl)
+
+owner_reads : ((steps (lane 2) 0 60 helped).callers 0).answers ≡ Got 1 ∷ Got 2 ∷ Got 9 ∷ []
+unfolding steps until installs next excess_of
+owner_reads = refl
+
+-- or links its stopper
+abbrev helped_stopper : State
+helped_stopper = runs (lane 2) 1 (Deq ∷ Deq ∷ []) announced
+
+helper_stops : (helped_stopper.history ≡ first_groups ++ group 0 2 (Deq ∷ Deq ∷ Deq ∷ []) ∷ group 1 0 (Deq ∷ Deq ∷ []) ∷ []) × ((helped_stopper.callers 1).answers ≡ Empty ∷ Empty ∷ [])
+unfolding steps until installs next excess_of
+helper_stops = (refl, refl)
+
+owner_finds : ((steps (lane 2) 0 60 helped_stopper).callers 0).answers ≡ Got 1 ∷ Got 2 ∷ Empty ∷ []
+unfolding steps until installs next excess_of
+owner_finds = refl
+
+-- Helpers come late. Caller 0 of three announces three dequeues on two values, and stops.
+abbrev three_announced : State
+three_announced = next (lane 3) (until installs (lane 3) 0 60 (start (lane 3) (runs (lane 3) 0 (Enq 2 ∷ []) (runs (lane 3) 0 (Enq 1 ∷ []) (opening (lane 3)))) 0 (Deq ∷ Deq ∷ Deq ∷ []))) 0
+
+-- caller 1 is about to link its stopper as caller 2 brings a value, and the owner decides first
+abbrev about_to_link : State
+about_to_link = until links (lane 3) 1 60 (start (lane 3) three_announced 1 (Deq ∷ []))
+
+abbrev decided_first : State
+decided_first = steps (lane 3) 0 60 (runs (lane 3) 2 (Enq 9 ∷ []) about_to_link)
+
+abbrev decided_groups : List Group
+decided_groups = first_groups ++ group 2 0 (Enq 9 ∷ []) ∷ group 0 2 (Deq ∷ Deq ∷ Deq ∷ []) ∷ []
+
+waits_to_link : links (about_to_link.callers 1).point ≡ true
+unfolding steps until installs links next excess_of
+waits_to_link = refl
+
+owner_decided : (decided_first.history ≡ decided_groups) × ((decided_first.callers 0).answers ≡ Got 1 ∷ Got 2 ∷ Got 9 ∷ []) × (decided_first.memory.head ≡ Node (place 25 3))
+unfolding steps until installs links next excess_of
+owner_decided = (refl, refl, refl)
+
+-- its exchange changes nothing
+late_stopper : ((next (lane 3) decided_first 1).history ≡ decided_groups) × ((next (lane 3) decided_first 1).memory.link 2 ≡ Single 25)
+unfolding steps until installs links next excess_of
+late_stopper = (refl, refl)
+
+late_helper : ((steps (lane 3) 1 60 decided_first).history ≡ decided_groups ++ group 1 0 (Deq ∷ []) ∷ []) × (((steps (lane 3) 1 60 decided_first).callers 1).answers ≡ Empty ∷ [])
+unfolding steps until installs links next excess_of
+late_helper = (refl, refl)
+
+-- caller 1 is about to decide as the owner does it
+abbrev about_to_decide : State
+about_to_decide = until decides (lane 3) 1 60 (start (lane 3) (runs (lane 3) 2 (Enq 9 ∷ []) three_announced) 1 (Deq ∷ []))
+
+waits_to_decide : decides (about_to_decide.callers 1).point ≡ true
+unfolding steps until installs decides next excess_of
+waits_to_decide = refl
+
+late_decide : let s : State = next (lane 3) (steps (lane 3) 0 60 about_to_decide) 1 in (s.history ≡ decided_groups) × (s.memory.old_tail 0 ≡ Some (place 25 3)) × ((s.callers 0).answers ≡ Got 1 ∷ Got 2 ∷ Got 9 ∷ [])
+unfolding steps until installs decides next excess_of
+late_decide = (refl, refl, refl)

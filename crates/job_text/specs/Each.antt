@@ -1,6 +1,0 @@
-use Rattle.std.specs.Prelude.{List, [], ◌∷◌, Option, Some, option_map, option_and_then}
-
--- What f gives at each element, in order, if it gives something at all of them.
-abbrev pub each_of : {X Y : Type 0} → (X → Option Y) → List X → Option (List Y)
-each_of f [] = Some []
-each_of f (x ∷ xs) = option_and_then (λ y. option_map (λ ys. y ∷ ys) (each_of f xs)) (f x)

@@ -1,3 +1,0 @@
--- A lane of one caller.
-pub mod Stored
-pub mod PlainLane
