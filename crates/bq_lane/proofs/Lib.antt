@@ -1,3 +1,4 @@
+-- Lemmas on the definitions of specs/, in files named for their topics.
 pub mod Walks
 pub mod Advances
 pub mod Continues

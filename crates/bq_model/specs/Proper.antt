@@ -1,3 +1,4 @@
+-- Histories that the callers of a lane can make.
 use Rattle.std.specs.Prelude.{◌≡◌, ◌≢◌, ℕ, ◌<◌, List, [], length, map, All}
 use Rattle.std.specs.List.{range_with_len}
 use Rattle.bq_model.specs.declared.group.Group.{Group}

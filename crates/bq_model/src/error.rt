@@ -1,3 +1,4 @@
+// Refusals and failures.
 use std::alloc::{AllocError, AllocFailed};
 use thiserror::Error;
 

@@ -1,3 +1,4 @@
+// What is wrong with a text, and in which words it is told.
 ghost use Rattle.std.specs.Prelude.{◌≡◌};
 
 use std::fmt;

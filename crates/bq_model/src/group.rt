@@ -1,3 +1,4 @@
+// The groups that a history is made of.
 use crate::items::Ops;
 
 /// Operations of one caller that take effect together. A plain operation is a group of one.

@@ -1,3 +1,4 @@
+-- Lemmas on the definitions of specs/, in files named for their topics.
 pub mod Pending
 pub mod Names
 pub mod Kept

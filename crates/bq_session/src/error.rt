@@ -1,3 +1,4 @@
+// Why a session refuses a call.
 use crate::ticket::Ticket;
 use bq_model::Refusal;
 use thiserror::Error;

@@ -1,3 +1,4 @@
+// A deferred operation, and how it stands. It keeps its place, its answer, or that it was withdrawn.
 use bq_model::Answer;
 
 /// How a deferred operation stands while its ticket is live.

@@ -1,3 +1,4 @@
+-- The operations of a unit.
 use Rattle.std.specs.Prelude.{ℕ, ◌/◌, List, ◌∷◌, ◌++◌, length, map, replicate}
 use Rattle.bq_model.specs.declared.op.Op.{Op}
 use Rattle.bq_model.specs.declared.op.Op.TheVariants.{Enq, Deq}

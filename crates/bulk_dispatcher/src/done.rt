@@ -1,3 +1,4 @@
+// What a run leaves: replies and books.
 use crate::reply::Reply;
 use bq_model::{Items, Lane};
 

@@ -1,3 +1,4 @@
+// A reply, which names the dequeue that got its job.
 ghost use Rattle.std.specs.Prelude.{◌≡◌};
 
 use bq_model::Text;

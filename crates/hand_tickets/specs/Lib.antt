@@ -1,1 +1,2 @@
+-- What a hand holds between its rounds.
 pub mod Holds

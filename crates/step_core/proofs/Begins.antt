@@ -1,9 +1,8 @@
 -- Which commands can start, and how they begin.
-use Rattle.std.proofs.Common.{◌≡◌, ℕ, ◌≤◌, leb, ltb, ◌&&◌, ◌||◌, Bool, true, false, List, length, sym, refl, arith, ◌↔◌, subst}
+use Rattle.std.proofs.Common.{◌≡◌, ℕ, ◌≤◌, leb, ltb, true, List, length, sym, ◌↔◌, subst}
 use Rattle.std.proofs.lemmas.Bool.{ltb-true, leb-true, and_parts}
 use Rattle.bq_model.specs.declared.op.Op.{Op}
 use Rattle.bq_model.specs.Own.{mine}
-use Rattle.excess_count.specs.Excess.{enqueue_count}
 use Rattle.core_model.specs.declared.point.Point.TheVariants.{Idle}
 use Rattle.core_model.specs.LaneSizes.{LaneSizes}
 use Rattle.core_model.specs.Lawful.{Lawful}

@@ -1,3 +1,4 @@
+-- Lemmas on the definitions of specs/, in files named for their topics.
 pub mod Courses
 pub mod Totals
 pub mod Callers
