@@ -1,5 +1,5 @@
 // The jobs and lanes that words are.
-ghost use Rattle.std.specs.Prelude.{◌≡◌, IfOk, IfSome, Ok, Err};
+ghost use Rattle.std.specs.Prelude.{◌≡◌, [], IfOk, IfSome, Ok, Err};
 ghost use Rattle.text_lines.specs.Number.{number_of};
 ghost use Rattle.text_lines.specs.Refusals.{ReadsPart};
 ghost use Rattle.text_lines.specs.Each.{each_of};
@@ -14,6 +14,8 @@ use text_lines::{LineRefused, Words, byte_word, first_of, hex_word, number, numb
 const MOST_LANE: u64 = 15;
 /// The most turns of a mix.
 const MOST_TURNS: u64 = 1_000_000;
+/// The numbers of a sum for which there is room from the first.
+const FEW: usize = 3;
 
 const BAD_WORD: LineRefused = LineRefused::Cause(TextCause::BadWord);
 
@@ -97,7 +99,7 @@ fn read_sum(alloc: Global, words: Words) -> Result<Job, LineRefused>
 fn read_numbers(alloc: Global, words: Words) -> Result<Option<Numbers>, OutOfMemory>
     ensures { IfOk result (λ numbers. numbers ≡ each_of number_of words.entry) }
 {
-    let mut numbers = Numbers::new(alloc);
+    let mut numbers = room_for_few(alloc)?;
     for word in words {
         let Some(number) = number(word) else {
             return Ok(None);
@@ -105,6 +107,13 @@ fn read_numbers(alloc: Global, words: Words) -> Result<Option<Numbers>, OutOfMem
         numbers.push(number)?;
     }
     Ok(Some(numbers))
+}
+
+// No number, with room for a few. A list of up to three takes the least that the heap gives.
+fn room_for_few(alloc: Global) -> Result<Numbers, OutOfMemory>
+    ensures { IfOk result (λ numbers. numbers ≡ []) }
+{
+    Ok(Numbers::from(Vec::with_capacity(alloc, FEW)?))
 }
 
 fn read_digest(alloc: Global, mut words: Words) -> Result<Job, LineRefused>

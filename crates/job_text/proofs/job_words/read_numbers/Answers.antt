@@ -5,7 +5,7 @@ use Rattle.job_text.proofs.job_words.read_numbers.Goals as goal
 
 pub loop-word-init : goal.loop-word-init
 loop-word-init c =
-    rw (c.new-numbers.ensures, c.into_iter-word-iterator.ensures.into_iter_gives) (onto-nil (each_of number_of c.args.words))
+    rw (c.in_ok-numbers.ensures, c.into_iter-word-iterator.ensures.into_iter_gives) (onto-nil (each_of number_of c.args.words))
 
 pub returns-in_default : goal.returns-in_default
 returns-in_default c =
