@@ -1,0 +1,2 @@
+-- Lemmas on the definitions of specs/, in files named for their topics.
+pub mod Picks
