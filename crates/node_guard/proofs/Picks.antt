@@ -22,7 +22,7 @@ in_a_row_are_distinct : (a n : ℕ) → IsDistinct nat_eq (range_with_len a n)
 in_a_row_are_distinct a n = IsDistinct-from_apart nat_eq (range_with_len a n) (λ i j d before inside.
     let within : j < n = subst (λ (k : ℕ). j < k) (length-range_with_len a n) inside in
     ne_eqb (get_or (range_with_len a n) i d) (get_or (range_with_len a n) j d) (λ same.
-        let e : a + i ≡ a + j = sym (get_or-range_with_len a n i d (omega arith)) ∙ (same ∙ get_or-range_with_len a n j d within) in omega arith))
+    let e : a + i ≡ a + j = sym (get_or-range_with_len a n i d (omega arith)) ∙ (same ∙ get_or-range_with_len a n j d within) in omega arith))
 
 -- n numbers that follow one another are in no list that is shorter than n
 pub pigeons : (n a : ℕ) (xs : List ℕ) → ((b : ℕ) → a ≤ b → b < a + n → among xs b ≡ true) → n ≤ length xs
@@ -31,6 +31,14 @@ pigeons n a xs all = subst (λ (k : ℕ). k ≤ length xs) (length-range_with_le
     let inside : found.0 < n = subst (λ (k : ℕ). found.0 < k) (length-range_with_len a n) found.1 in
     let is : a + found.0 ≡ b = sym (get_or-range_with_len a n found.0 b inside) ∙ found.2 in
     (is_member-Decides Decides-eqb xs b).1 ((among_decides xs b).0 (all b (omega arith) (omega arith)))))
+
+-- a number that is in the list is passed over
+pub first_left-held : (xs : List ℕ) (n a : ℕ) → among xs a ≡ true → first_left xs (suc n) a ≡ first_left xs n (suc a)
+first_left-held xs n a is = ap (λ (b : Bool). cond b (first_left xs n (suc a)) a) is
+
+-- and one that isn't is the first
+pub first_left-here : (xs : List ℕ) (n a : ℕ) → among xs a ≡ false → first_left xs (suc n) a ≡ a
+first_left-here xs n a is = ap (λ (b : Bool). cond b (first_left xs n (suc a)) a) is
 
 -- what is found first is not in the list, where anything is left, and all before it are
 pub first_is_left : (xs : List ℕ) (n a : ℕ) → (a ≤ first_left xs n a) × (first_left xs n a ≤ a + n) × ((b : ℕ) → a ≤ b → b < first_left xs n a → among xs b ≡ true)

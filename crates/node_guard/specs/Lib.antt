@@ -1,2 +1,3 @@
--- What is picked of a caller's announcements, and what a list of retired rows gives.
+-- Which of a caller's announcements is picked, and what a list of retired rows gives.
 pub mod Pick
+pub mod Retired

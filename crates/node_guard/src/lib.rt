@@ -1,4 +1,13 @@
-//! The guards of a lane whose rows and announcements are used again: nothing that another caller holds is given out.
+//! The guards of a lane that uses its rows and announcements again: what another caller holds is not given out.
 //!
-//! `ann_stock` picks a caller's next announcement.
+//! `ann_stock` picks a caller's next announcement, and `retired` keeps the rows that a caller let go until nobody
+//! holds them. `specs/` says which announcement and which row that is.
 #![tactic(auto)]
+
+mod ann_stock;
+mod retired;
+#[cfg(test)]
+mod tests;
+
+pub use ann_stock::AnnStock;
+pub use retired::Retired;
