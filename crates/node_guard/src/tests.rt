@@ -41,13 +41,15 @@ fn drained(alloc: Global, retired: &mut Retired, held: &[u32]) -> Result<Vec<u32
     Ok(rows)
 }
 
-/// The numbers whose bits are set.
+/// The numbers whose bits are set, the first number's the lowest.
 fn chosen(alloc: Global, numbers: &[u32], bits: u32) -> Result<Vec<u32>, AllocError> {
     let mut some = Vec::new(alloc);
-    for (place, number) in numbers.iter().enumerate() {
-        if bits >> (place as u32 % 32) & 1 == 1 {
+    let mut left = bits;
+    for number in numbers {
+        if left % 2 == 1 {
             some.push(*number)?;
         }
+        left /= 2;
     }
     Ok(some)
 }
