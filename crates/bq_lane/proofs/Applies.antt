@@ -16,9 +16,11 @@ use Rattle.core_model.specs.Lawful.{Allowed}
 use Rattle.atomic_table.specs.Seated.{TableId}
 use Rattle.bq_model.specs.declared.shape.Shape.{Shape}
 use Rattle.core_model.specs.declared.point.Point.{Point}
-use Rattle.excess_count.specs.Pairing.{paired}
+use Rattle.core_model.specs.declared.point.Closing.{Closing}
+use Rattle.core_model.specs.Step.{closing_answers}
 use Rattle.bq_lane.specs.declared.next.Next.{Next}
-use Rattle.bq_lane.specs.declared.next.Next.TheVariants.{Goes, Ends, Counts}
+use Rattle.bq_lane.specs.declared.next.Next.TheVariants.{Goes, Ends}
+use Rattle.bq_lane.specs.declared.scratch.Scratch.{Scratch}
 use Rattle.bq_lane.specs.Running.{Running, GoesTo, EndsTo, IsNext, group_of, begun_seat}
 use Rattle.bq_lane.proofs.Continues.{ends_then}
 use Rattle.bq_lane.specs.Applied.{Applied}
@@ -48,7 +50,7 @@ module _ {A : Type 0} where
 stands_as : (h : List Group) (g g' : Group) (xs ys : List Answer) → g ≡ g' → xs ≡ ys → (s : Stands h g xs) → (t : Stands h g' ys) × (length t.before ≡ length s.before)
 stands_as h g g' xs ys e f s = (record { before = s.before; behind = s.behind; splits = s.splits ∙ ap (λ (y : Group). (s.before ++ y ∷ []) ++ s.behind) e; right = sym f ∙ (s.right ∙ ap (λ (y : Group). answers_from (last_queue s.before) y.ops) e) }, refl)
 
-module _ (p q : Seat ℕ View) (n : ℕ) (ops : List Op) (xs : List Answer) (less : length p.me.0.seen ≤ n) (e : EndsTo (begun_seat p n ops) ops xs q) where
+module _ (p q : Seat ℕ View) (n : ℕ) (ops : List Op) (xs : List Answer) (a : Scratch) (less : length p.me.0.seen ≤ n) (e : EndsTo (begun_seat p n ops) ops xs a q) where
   ended : EndedDone (seen_by q.me.0) q.me.0.caller
   ended = e.knows.done e.idle e.outcome
 
@@ -59,7 +61,7 @@ module _ (p q : Seat ℕ View) (n : ℕ) (ops : List Op) (xs : List Answer) (les
   there : (t : Stands q.me.0.seen (group_of p.me.0 ops) xs) × (length t.before ≡ length ended.stands.before)
   there = stands_as q.me.0.seen (numbered q.me.0.caller ended.earlier ended.ops) (group_of p.me.0 ops) q.me.0.kept.answers xs its_group e.answers ended.stands
 
-  pub applied : Applied p ops xs q
+  pub applied : Applied p ops xs a q
   applied = record {
     same = record { table = e.same.table; id = e.same.id; slots = e.same.slots; caller = e.same.caller; shape = e.same.shape; later = e.same.later };
     alone = e.alone;
@@ -72,25 +74,22 @@ module _ (p q : Seat ℕ View) (n : ℕ) (ops : List Op) (xs : List Answer) (les
     own = e.knows.own e.idle;
     taken = e.taken;
     stopped = e.stopped;
-    made = e.made;
-    allowed = subst (λ (os : List Op). Allowed (lane_sizes q.me.0.shape) q.me.0.kept.mine os q.me.0.kept.taken q.me.0.kept.stopped q.me.0.kept.made) e.none_left e.knows.allowed;
+    allowed = subst (λ (os : List Op). Allowed (lane_sizes q.me.0.shape) q.me.0.kept.mine os q.me.0.kept.taken q.me.0.kept.stopped) e.none_left e.knows.allowed;
+    agrees = e.agrees;
   }
 
-pub goes_applied : (p q r : Seat ℕ View) (n : ℕ) (ops : List Op) (xs : List Answer) → length p.me.0.seen ≤ n → GoesTo (begun_seat p n ops) q → EndsTo q ops xs r → Applied p ops xs r
-goes_applied p q r n ops xs less goes ends = applied p r n ops xs less (ends_then (begun_seat p n ops) q r ops xs refl goes (subst (λ (ys : List Op). EndsTo q ys xs r) (sym (ap (λ (m : Command). m.ops) goes.command)) ends))
+pub goes_applied : (p q r : Seat ℕ View) (n : ℕ) (ops : List Op) (xs : List Answer) (a : Scratch) → length p.me.0.seen ≤ n → GoesTo (begun_seat p n ops) q → EndsTo q ops xs a r → Applied p ops xs a r
+goes_applied p q r n ops xs a less goes ends = applied p r n ops xs a less (ends_then (begun_seat p n ops) q r ops xs a refl goes (subst (λ (ys : List Op). EndsTo q ys xs a r) (sym (ap (λ (m : Command). m.ops) goes.command)) ends))
 
 pub its_ops : (p q : Seat ℕ View) (n : ℕ) (ops : List Op) → GoesTo (begun_seat p n ops) q → ops ≡ q.me.0.kept.ops
 its_ops p q n ops goes = sym (ap (λ (m : Command). m.ops) goes.command)
 
-pub answers_are : (p q : Seat ℕ View) (n : ℕ) (ops : List Op) (xs ys : List Answer) → length p.me.0.seen ≤ n → EndsTo (begun_seat p n ops) ops xs q → ys ≡ xs → Applied p ops ys q
-answers_are p q n ops xs ys less ends e = applied p q n ops ys less (subst (λ (zs : List Answer). EndsTo (begun_seat p n ops) ops zs q) (sym e) ends)
+pub answers_are : (p q : Seat ℕ View) (n : ℕ) (ops : List Op) (xs ys : List Answer) (a : Scratch) → length p.me.0.seen ≤ n → EndsTo (begun_seat p n ops) ops xs a q → ys ≡ xs → Applied p ops ys a q
+answers_are p q n ops xs ys a less ends e = applied p q n ops ys a less (subst (λ (zs : List Answer). EndsTo (begun_seat p n ops) ops zs a q) (sym e) ends)
 
-module _ (id : TableId) (key s : Shape) (puts vs : List ℕ) (room : ℕ) (p q : Seat ℕ View) (y : Next) (next : IsNext id key s puts vs room p q y) where
-  pub as_goes : (t : Point) → y ≡ Goes t → Running id key s t puts vs room q × GoesTo p q
-  as_goes t e = subst (IsNext id key s puts vs room p q) e next
+module _ (id : TableId) (key s : Shape) (c : ℕ) (a : Scratch) (p q : Seat ℕ View) (y : Next) (next : IsNext id key s c a p q y) where
+  pub as_goes : (t : Point) → y ≡ Goes t → Running id key s c t a q × GoesTo p q
+  as_goes t e = subst (IsNext id key s c a p q) e next
 
-  pub as_ends : (a : Answer) → y ≡ Ends a → EndsTo p p.me.0.kept.ops (a ∷ []) q
-  as_ends a e = subst (IsNext id key s puts vs room p q) e next
-
-  pub as_counts : (n : ℕ) → y ≡ Counts n → EndsTo p p.me.0.kept.ops (paired p.me.0.kept.ops n vs) q
-  as_counts n e = subst (IsNext id key s puts vs room p q) e next
+  pub as_ends : (x : Closing) → y ≡ Ends x → EndsTo p p.me.0.kept.ops (closing_answers p.me.0.kept.ops a.values.items x) a q
+  as_ends x e = subst (IsNext id key s c a p q) e next

@@ -7,6 +7,7 @@ use Rattle.bq_model.specs.declared.group.Group.{Group}
 use Rattle.core_model.specs.State.{Command}
 use Rattle.lane_rule.specs.declared.view.View.{View}
 use Rattle.lane_rule.specs.Rule.{Begins}
+use Rattle.bq_lane.specs.declared.scratch.Scratch.{Scratch}
 use Rattle.bq_lane.specs.Running.{Same, GoesTo, EndsTo}
 
 begins_on : (a b c : List Group) → Begins a b → Begins b c → Begins a c
@@ -26,8 +27,8 @@ module _ (p q r : Seat ℕ View) where
   pub goes_then : GoesTo p q → GoesTo q r → GoesTo p r
   goes_then a b = record { same = same_on a.same b.same; command = b.command ∙ a.command }
 
-  pub ends_then : (ops : List Op) (xs : List Answer) → ops ≡ p.me.0.kept.ops → GoesTo p q → EndsTo q q.me.0.kept.ops xs r → EndsTo p ops xs r
-  ends_then ops xs is a b = record {
+  pub ends_then : (ops : List Op) (xs : List Answer) (at : Scratch) → ops ≡ p.me.0.kept.ops → GoesTo p q → EndsTo q q.me.0.kept.ops xs at r → EndsTo p ops xs at r
+  ends_then ops xs at is a b = record {
     same = same_on a.same b.same;
     alone = b.alone;
     heard = b.heard;
@@ -36,7 +37,7 @@ module _ (p q r : Seat ℕ View) where
     mine = b.mine ∙ (λ i. (a.command i).mine ++ record { caller = a.same.caller i; batch = length (a.command i).mine; ops = (ap (λ (m : Command). m.ops) a.command ∙ sym is) i } ∷ []);
     taken = b.taken ∙ ap (λ (m : Command). m.taken) a.command;
     stopped = b.stopped ∙ ap (λ (m : Command). m.stopped) a.command;
-    made = b.made ∙ ap (λ (m : Command). m.made) a.command;
+    agrees = b.agrees;
     started = b.started ∙ ap (λ (m : Command). m.started_at) a.command;
     answers = b.answers;
     outcome = b.outcome;

@@ -10,6 +10,7 @@ use Rattle.bq_model.specs.Grows.{Grew}
 use Rattle.bq_model.specs.Replay.{answers_from}
 use Rattle.lane_rule.specs.declared.view.View.{View}
 use Rattle.bq_lane.specs.Running.{group_of}
+use Rattle.bq_lane.specs.declared.scratch.Scratch.{Scratch}
 use Rattle.bq_lane.specs.Applied.{Applied}
 
 module _ {A : Type 0} where
@@ -26,8 +27,8 @@ module _ {A : Type 0} where
   goes_on_from (x ∷ a) (y ∷ b) r s e l = let t = goes_on_from a b r s (rest_same x y (a ++ r) (b ++ s) e) (omega (arith, l)) in
       (t.0, λ i. sym (first_same x y (a ++ r) (b ++ s) e) i ∷ t.1 i)
 
-pub grew : (p q : Seat ℕ View) (ops : List Op) (xs : List Answer) → mine p.me.0.seen p.me.0.caller ≡ p.me.0.kept.mine → Applied p ops xs q → Grew p.me.0.caller ops xs p.me.0.seen q.me.0.seen
-grew p q ops xs own a = record {
+pub grew : (p q : Seat ℕ View) (ops : List Op) (xs : List Answer) (at : Scratch) → mine p.me.0.seen p.me.0.caller ≡ p.me.0.kept.mine → Applied p ops xs at q → Grew p.me.0.caller ops xs p.me.0.seen q.me.0.seen
+grew p q ops xs at own a = record {
   between = between.0;
   after = a.stands.behind;
   grown = a.stands.splits ∙ (append_assoc a.stands.before (group_of p.me.0 ops ∷ []) a.stands.behind ∙ (λ i. between.1 i ++ its_group i ∷ a.stands.behind));

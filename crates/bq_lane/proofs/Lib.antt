@@ -1,5 +1,6 @@
 -- Lemmas on the definitions of specs/, in files named for their topics.
 pub mod Walks
+pub mod Follows
 pub mod Advances
 pub mod Continues
 pub mod Applies

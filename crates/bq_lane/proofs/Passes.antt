@@ -16,13 +16,14 @@ use Rattle.lane_rule.specs.declared.view.Kind.{Kind}
 use Rattle.lane_rule.specs.declared.view.Kind.TheVariants.{Maker, Alone, Gathered, Spent}
 use Rattle.lane_rule.specs.declared.view.View.{View}
 use Rattle.lane_rule.specs.Seating.{held_as, Holds, Idles}
+use Rattle.bq_lane.specs.declared.scratch.Scratch.{Scratch}
 use Rattle.bq_lane.specs.Pass.{callers_of, Counted, Rests}
 
 -- a view of one caller alone has that one
 pub one_alone : (v : View) → v.kind ≡ Alone → callers_of v ≡ v.caller ∷ []
 one_alone v is = ap (λ (k : Kind). map (λ (h : Held). h.caller) (held_as k v)) is
 
-module _ (me : Me ℕ View) (shape : Shape) (caller : ℕ) (stock : Stock) (operated pr vr : ℕ) (r : Rests me shape caller stock operated pr vr) (one : length (callers_of me.0) ≡ 1) where
+module _ (me : Me ℕ View) (shape : Shape) (caller : ℕ) (stock : Stock) (operated : ℕ) (hand : Scratch) (r : Rests me shape caller stock operated hand) (one : length (callers_of me.0) ≡ 1) where
   -- a seat of one caller is that of the one alone
   pub alone : me.0.kind ≡ Alone
   alone = by me.0.kind refl where
@@ -33,7 +34,7 @@ module _ (me : Me ℕ View) (shape : Shape) (caller : ℕ) (stock : Stock) (oper
     by Spent is = absurd (subst Idles is r.between_calls)
 
   -- what is known of it
-  pub its : Counted shape me.0 caller stock operated
+  pub its : Counted shape me.0 caller stock operated hand
   its = r.alone alone
 
   pub one_is : callers_of me.0 ≡ me.0.caller ∷ []

@@ -1,112 +1,89 @@
--- A call goes on with one more value of a walk only where it has just read one.
-use Rattle.std.proofs.Common.{◌≡◌, ℕ, suc, ◌==◌, Bool, true, false, cond, Option, Some, None, refl, sym, ap, ◌∙◌}
+-- A call goes on with one more value only where it has just read one, and with one more hazard word only where it has just
+-- read that.
+use Rattle.std.proofs.Common.{◌≡◌, ℕ, suc, ◌==◌, Bool, true, false, cond, Option, Some, None, refl}
 use Rattle.word_rows.specs.declared.content.Content.{Content}
 use Rattle.word_rows.specs.declared.link_word.LinkWord.{LinkWord}
 use Rattle.word_rows.specs.declared.link_word.LinkWord.TheVariants.{Nil, Single, Chain, Shut}
-use Rattle.word_rows.specs.declared.location.AnnField.TheVariants as field
 use Rattle.word_rows.specs.declared.place.Place.{Place}
 use Rattle.core_model.specs.declared.course.Course.{Course}
-use Rattle.core_model.specs.declared.course.Course.TheVariants.{GoesOn, Fills, WalksMore}
+use Rattle.core_model.specs.declared.course.Course.TheVariants.{GoesOn, Fills, Scans, Hears, ReadsMore, WalksMore}
 use Rattle.core_model.specs.declared.point.AnswerPoint.TheVariants as answer
 use Rattle.core_model.specs.declared.point.BatchPoint.TheVariants as batch
 use Rattle.core_model.specs.declared.point.DequeuePoint.TheVariants as dequeue
-use Rattle.core_model.specs.declared.point.Draft.{Draft}
 use Rattle.core_model.specs.declared.point.EnqueuePoint.TheVariants as enqueue
+use Rattle.core_model.specs.declared.point.FillPoint.TheVariants as fill
 use Rattle.core_model.specs.declared.point.Help.{Help}
 use Rattle.core_model.specs.declared.point.HelpPoint.TheVariants as help
 use Rattle.core_model.specs.declared.point.ManyPoint.TheVariants as many
+use Rattle.core_model.specs.declared.point.Notice.{Notice}
+use Rattle.core_model.specs.declared.point.Plan.{Plan}
 use Rattle.core_model.specs.declared.point.Point.{Point}
 use Rattle.core_model.specs.declared.point.Point.TheVariants as point
-use Rattle.core_model.specs.Act.{is_node}
+use Rattle.core_model.specs.Act.{is_node, is_ann}
 use Rattle.core_model.specs.Answer as answering
-use Rattle.core_model.specs.Batch as filling
 use Rattle.core_model.specs.Dequeue as dequeuing
+use Rattle.core_model.specs.Fill as filling
 use Rattle.core_model.specs.Many as walking
 use Rattle.core_model.specs.State.{head_in, old_tail_in, link_in}
 use Rattle.core_model.specs.Step.{course}
 
--- whether it goes on with one more value of a walk
-abbrev walks_more : Course → Bool
-walks_more (WalksMore t v) = true
-walks_more _ = false
+-- a course that goes on with one more value has W, and one with one more hazard word has H
+module _ (W : Type 0) (H : Notice → ℕ → Type 0) where
+  abbrev pub Fits : Course → Type 0
+  Fits (ReadsMore m r l v) = W
+  Fits (WalksMore t v) = W
+  Fits (Hears n e x) = H n e
+  Fits _ = Unit {0}
 
-either_not : (b : Bool) (x y : Course) → walks_more x ≡ false → walks_more y ≡ false → walks_more (cond b x y) ≡ false
-either_not true x y p q = p
-either_not false x y p q = q
+  either : (b : Bool) (y z : Course) → Fits y → Fits z → Fits (cond b y z)
+  either true y z p q = p
+  either false y z p q = q
 
-dequeue_not : (p : Place) (l : LinkWord) → walks_more (dequeuing.after_link p l) ≡ false
-dequeue_not p Nil = refl
-dequeue_not p (Single r) = refl
-dequeue_not p (Chain r) = refl
-dequeue_not p Shut = refl
+  dequeue_fits : (p : Place) (l : LinkWord) → Fits (dequeuing.after_link p l)
+  dequeue_fits p Nil = tt
+  dequeue_fits p (Single r) = tt
+  dequeue_fits p (Chain r) = tt
+  dequeue_fits p Shut = tt
 
-fill_not : (d : Draft) (i r : ℕ) → walks_more (filling.after_value d i r) ≡ false
-fill_not d i r = by (suc i == d.notice.counts.enqs) where
-  by : (b : Bool) → walks_more (cond b (GoesOn (point.Batch d (cond (d.notice.counts.enqs == 1) (batch.StoreField field.OldTail) (batch.StoreChain 0 d.notice.first (suc d.notice.first))))) (Fills d (suc i) (suc r))) ≡ false
-  by true = refl
-  by false = refl
+  value_fits : (n : Notice) (i r : ℕ) → Fits (filling.after_value n i r)
+  value_fits n i r = either (suc i == n.counts.enqs) (cond (n.counts.enqs == 1) (Scans n) (GoesOn (point.Fill n (fill.StoreChain 0 n.first (suc n.first))))) (Fills n (suc i) (suc r))
+      (either (n.counts.enqs == 1) (Scans n) (GoesOn (point.Fill n (fill.StoreChain 0 n.first (suc n.first)))) tt tt) tt
 
-answer_not : (h : Help) (o : Option Place) → walks_more (answering.after_old_tail h o) ≡ false
-answer_not h None = refl
-answer_not h (Some q) = refl
+  answer_fits : (h : Help) (o : Option Place) → Fits (answering.after_old_tail h o)
+  answer_fits h None = tt
+  answer_fits h (Some q) = tt
 
-dummy_not : (d : Draft) (l : LinkWord) → walks_more (walking.after_dummy d l) ≡ false
-dummy_not d Nil = refl
-dummy_not d (Single r) = refl
-dummy_not d (Chain r) = refl
-dummy_not d Shut = refl
+  dummy_fits : (d : Plan) (l : LinkWord) → Fits (walking.after_dummy d l)
+  dummy_fits d Nil = tt
+  dummy_fits d (Single r) = tt
+  dummy_fits d (Chain r) = tt
+  dummy_fits d Shut = tt
 
-module _ (Here : Type 0) (u : Point) (v : ℕ) (x : Content) where
-  refuted : (y : Course) → walks_more y ≡ false → WalksMore u v ≡ y → Here
-  refuted y never e = absurd (cc (sym never ∙ sym (ap walks_more e)))
+  announces_fits : (n : Notice) (a : Option ℕ) → Fits (walking.announces n a)
+  announces_fits n None = tt
+  announces_fits n (Some a) = tt
 
-  -- what holds where it reads a value of a walk holds
-  pub walking_fits : (t : Point) → ((d : Draft) (r l : ℕ) → t ≡ point.Many d (many.LoadValue r l) → Here) → WalksMore u v ≡ course t x → Here
-  walking_fits (point.Many d (many.LoadValue r l)) fits e = fits d r l refl
-  walking_fits point.Idle fits e = refuted (course point.Idle x) refl e
-  walking_fits (point.Enqueue i enqueue.StoreValue) fits e = refuted (course (point.Enqueue i enqueue.StoreValue) x) refl e
-  walking_fits (point.Enqueue i enqueue.LoadTail) fits e = refuted (course (point.Enqueue i enqueue.LoadTail) x) refl e
-  walking_fits (point.Enqueue i (enqueue.LoadLink p)) fits e = refuted (course (point.Enqueue i (enqueue.LoadLink p)) x) refl e
-  walking_fits (point.Enqueue i (enqueue.LinkSingle p)) fits e = refuted (course (point.Enqueue i (enqueue.LinkSingle p)) x) refl e
-  walking_fits (point.Enqueue i (enqueue.PassTail p n)) fits e = refuted (course (point.Enqueue i (enqueue.PassTail p n)) x) refl e
-  walking_fits (point.Enqueue i (enqueue.MoveTail p n)) fits e = refuted (course (point.Enqueue i (enqueue.MoveTail p n)) x) refl e
-  walking_fits (point.Enqueue i enqueue.LoadHead) fits e = refuted (course (point.Enqueue i enqueue.LoadHead) x) refl e
-  walking_fits (point.Dequeue dequeue.LoadHead) fits e = refuted (course (point.Dequeue dequeue.LoadHead) x) refl e
-  walking_fits (point.Dequeue (dequeue.LoadLink p)) fits e = refuted (course (point.Dequeue (dequeue.LoadLink p)) x) (dequeue_not p (link_in x)) e
-  walking_fits (point.Dequeue (dequeue.LoadTail p n)) fits e = refuted (course (point.Dequeue (dequeue.LoadTail p n)) x) refl e
-  walking_fits (point.Dequeue (dequeue.LoadTailOver p n)) fits e = refuted (course (point.Dequeue (dequeue.LoadTailOver p n)) x) refl e
-  walking_fits (point.Dequeue (dequeue.PassTail p n)) fits e = refuted (course (point.Dequeue (dequeue.PassTail p n)) x) refl e
-  walking_fits (point.Dequeue (dequeue.LoadValue p n)) fits e = refuted (course (point.Dequeue (dequeue.LoadValue p n)) x) refl e
-  walking_fits (point.Dequeue (dequeue.MoveHead p n w)) fits e = refuted (course (point.Dequeue (dequeue.MoveHead p n w)) x) (either_not (is_node (head_in x) p) _ _ refl refl) e
-  walking_fits (point.Batch d (batch.StoreValue i r w)) fits e = refuted (course (point.Batch d (batch.StoreValue i r w)) x) (fill_not d i r) e
-  walking_fits (point.Batch d (batch.StoreChain i r n)) fits e = refuted (course (point.Batch d (batch.StoreChain i r n)) x) refl e
-  walking_fits (point.Batch d (batch.StoreField f)) fits e = refuted (course (point.Batch d (batch.StoreField f)) x) refl e
-  walking_fits (point.Batch d batch.LoadHead) fits e = refuted (course (point.Batch d batch.LoadHead) x) refl e
-  walking_fits (point.Batch d batch.Install) fits e = refuted (course (point.Batch d batch.Install) x) refl e
-  walking_fits (point.Many d many.LoadHead) fits e = refuted (course (point.Many d many.LoadHead) x) refl e
-  walking_fits (point.Many d many.LoadDummy) fits e = refuted (course (point.Many d many.LoadDummy) x) (dummy_not d (link_in x)) e
-  walking_fits (point.Many d (many.LoadLink r l)) fits e = refuted (course (point.Many d (many.LoadLink r l)) x) refl e
-  walking_fits (point.Many d (many.LoadTail r)) fits e = refuted (course (point.Many d (many.LoadTail r)) x) refl e
-  walking_fits (point.Many d (many.MoveHead r)) fits e = refuted (course (point.Many d (many.MoveHead r)) x) (either_not (is_node (head_in x) d.notice.old_head) _ _ refl refl) e
-  walking_fits (point.Many d (many.LoadBehind p)) fits e = refuted (course (point.Many d (many.LoadBehind p)) x) refl e
-  walking_fits (point.Many d (many.PassTail p n)) fits e = refuted (course (point.Many d (many.PassTail p n)) x) refl e
-  walking_fits (point.Many d many.LoadChained) fits e = refuted (course (point.Many d many.LoadChained) x) refl e
-  walking_fits (point.Many d (many.StoreField f)) fits e = refuted (course (point.Many d (many.StoreField f)) x) refl e
-  walking_fits (point.Answer (answer.LoadOldTail h)) fits e = refuted (course (point.Answer (answer.LoadOldTail h)) x) (answer_not h (old_tail_in x)) e
-  walking_fits (point.Answer (answer.LoadLink m r l)) fits e = refuted (course (point.Answer (answer.LoadLink m r l)) x) refl e
-  walking_fits (point.Answer (answer.LoadValue m r l)) fits e = refuted (course (point.Answer (answer.LoadValue m r l)) x) refl e
-  walking_fits (point.Help h help.LoadOldHead) fits e = refuted (course (point.Help h help.LoadOldHead) x) refl e
-  walking_fits (point.Help h help.LoadFirst) fits e = refuted (course (point.Help h help.LoadFirst) x) refl e
-  walking_fits (point.Help h help.LoadLast) fits e = refuted (course (point.Help h help.LoadLast) x) refl e
-  walking_fits (point.Help h help.LoadCounts) fits e = refuted (course (point.Help h help.LoadCounts) x) refl e
-  walking_fits (point.Help h help.LoadTail) fits e = refuted (course (point.Help h help.LoadTail) x) refl e
-  walking_fits (point.Help h (help.LoadOldTail p)) fits e = refuted (course (point.Help h (help.LoadOldTail p)) x) refl e
-  walking_fits (point.Help h (help.LoadLink p)) fits e = refuted (course (point.Help h (help.LoadLink p)) x) refl e
-  walking_fits (point.Help h (help.LinkChain p)) fits e = refuted (course (point.Help h (help.LinkChain p)) x) refl e
-  walking_fits (point.Help h (help.Decide p)) fits e = refuted (course (point.Help h (help.Decide p)) x) refl e
-  walking_fits (point.Help h (help.PassTail p n)) fits e = refuted (course (point.Help h (help.PassTail p n)) x) refl e
-  walking_fits (point.Help h (help.RecordTail p)) fits e = refuted (course (point.Help h (help.RecordTail p)) x) refl e
-  walking_fits (point.Help h (help.LoadTailOver p)) fits e = refuted (course (point.Help h (help.LoadTailOver p)) x) refl e
-  walking_fits (point.Help h (help.MoveTailOver p)) fits e = refuted (course (point.Help h (help.MoveTailOver p)) x) refl e
-  walking_fits (point.Help h (help.LoadWalk m r l)) fits e = refuted (course (point.Help h (help.LoadWalk m r l)) x) refl e
-  walking_fits (point.Help h (help.MoveHead m r)) fits e = refuted (course (point.Help h (help.MoveHead m r)) x) refl e
+  link_fits : (d : Plan) (l : ℕ) (x : LinkWord) → Fits (walking.after_link d l x)
+  link_fits d l Nil = announces_fits d.notice d.ann
+  link_fits d l (Single n) = tt
+  link_fits d l (Chain n) = tt
+  link_fits d l Shut = tt
+
+  pub course_fits : (x : Content) (t : Point) → ((m r l : ℕ) → t ≡ point.Answer (answer.LoadValue m r l) → W) → ((d : Plan) (r l : ℕ) → t ≡ point.Many d (many.LoadValue r l) → W)
+      → ((n : Notice) (e : ℕ) → t ≡ point.Fill n (fill.LoadHazard e) → H n e) → Fits (course t x)
+  course_fits x (point.Many d (many.LoadValue r l)) a w h = w d r l refl
+  course_fits x (point.Fill n (fill.LoadHazard e)) a w h = h n e refl
+  course_fits x (point.Fill n (fill.StoreValue i r v)) a w h = value_fits n i r
+  course_fits x (point.Fill n (fill.StoreChain i r q)) a w h = either (suc (suc i) == n.counts.enqs) (Scans n) (GoesOn (point.Fill n (fill.StoreChain (suc i) q (suc q)))) tt tt
+  course_fits x (point.Enqueue i enqueue.StoreValue) a w h = tt
+  course_fits x (point.Dequeue (dequeue.LoadLink p)) a w h = dequeue_fits p (link_in x)
+  course_fits x (point.Dequeue (dequeue.MoveHead p n v)) a w h = either (is_node (head_in x) p) _ _ tt tt
+  course_fits x (point.Batch d batch.LoadHead) a w h = tt
+  course_fits x (point.Many d many.LoadDummy) a w h = dummy_fits d (link_in x)
+  course_fits x (point.Many d (many.LoadLink r l)) a w h = link_fits d l (link_in x)
+  course_fits x (point.Many d (many.MoveHead r)) a w h = either (is_node (head_in x) d.notice.old_head) _ _ tt tt
+  course_fits x (point.Help k help.LoadHead) a w h = either (is_ann (head_in x) k.ann k.old_head.count) _ _ tt tt
+  course_fits x (point.Answer (answer.LoadOldTail k)) a w h = answer_fits k (old_tail_in x)
+  course_fits x (point.Answer (answer.LoadLink m r l)) a w h = tt
+  course_fits x (point.Answer (answer.LoadValue m r l)) a w h = a m r l refl
+  course_fits x _ a w h = tt

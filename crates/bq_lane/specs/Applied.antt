@@ -9,15 +9,17 @@ use Rattle.excess_count.specs.Excess.{enqueue_count}
 use Rattle.core_model.specs.Kept.{Stands}
 use Rattle.core_model.specs.LaneSizes.{lane_sizes}
 use Rattle.core_model.specs.Lawful.{Allowed}
-use Rattle.core_model.specs.Start.{anns_taken, stoppers_taken}
+use Rattle.core_model.specs.Start.{stoppers_taken}
 use Rattle.core_model.specs.declared.point.Point.TheVariants.{Idle}
 use Rattle.lane_rule.specs.declared.view.View.{View}
 use Rattle.lane_rule.specs.declared.view.Kind.TheVariants.{Alone}
+use Rattle.bq_lane.specs.declared.scratch.Scratch.{Scratch}
+use Rattle.bq_lane.specs.Scratch.{Agrees}
 use Rattle.bq_lane.specs.Running.{Same, group_of}
 
 -- The group of these operations is one more of the caller's. It stands in what the caller has now seen, not before the end
--- of what it had seen, and the answers are the replay's there.
-pub record Applied (p : Seat ℕ View) (ops : List Op) (xs : List Answer) (q : Seat ℕ View) : Type 0 where
+-- of what it had seen, and the answers are the replay's there. This is left at hand.
+pub record Applied (p : Seat ℕ View) (ops : List Op) (xs : List Answer) (a : Scratch) (q : Seat ℕ View) : Type 0 where
   pub same : Same p q
   pub alone : q.me.0.kind ≡ Alone
   pub heard : q.me.0.heard ≡ []
@@ -27,9 +29,8 @@ pub record Applied (p : Seat ℕ View) (ops : List Op) (xs : List Answer) (q : S
   pub placed : length p.me.0.seen ≤ length stands.before
   pub proper : IsProper q.me.0.shape.callers q.me.0.seen
   pub own : mine q.me.0.seen q.me.0.caller ≡ q.me.0.kept.mine
-  -- it took a row for each enqueue, an announcement where there are several operations, and a stopper where they are
-  -- dequeues alone
+  -- it took a row for each enqueue, and a stopper where they are several dequeues alone
   pub taken : q.me.0.kept.taken ≡ p.me.0.kept.taken + enqueue_count ops
   pub stopped : q.me.0.kept.stopped ≡ p.me.0.kept.stopped + stoppers_taken ops
-  pub made : q.me.0.kept.made ≡ p.me.0.kept.made + anns_taken ops
-  pub allowed : Allowed (lane_sizes q.me.0.shape) q.me.0.kept.mine [] q.me.0.kept.taken q.me.0.kept.stopped q.me.0.kept.made
+  pub allowed : Allowed (lane_sizes q.me.0.shape) q.me.0.kept.mine [] q.me.0.kept.taken q.me.0.kept.stopped
+  pub agrees : Agrees q.me.0.kept a

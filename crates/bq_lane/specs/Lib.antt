@@ -1,4 +1,6 @@
 -- A lane over its table.
+pub mod Scratch
+pub mod Next
 pub mod Running
 pub mod Applied
 pub mod Made

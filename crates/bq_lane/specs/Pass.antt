@@ -15,6 +15,8 @@ use Rattle.lane_rule.specs.declared.view.Kept.{Kept}
 use Rattle.lane_rule.specs.declared.view.View.{View}
 use Rattle.lane_rule.specs.declared.view.Kind.TheVariants.{Alone, Gathered}
 use Rattle.lane_rule.specs.Seating.{held_as, Holds, Idles}
+use Rattle.bq_lane.specs.declared.scratch.Scratch.{Scratch}
+use Rattle.bq_lane.specs.Scratch.{Agrees, Reserves}
 
 -- a lane: its table and its shape
 pub record LaneState : Type 0 where
@@ -36,22 +38,22 @@ new_pass table shape c = record { table = table; shape = shape; callers = c ∷ 
 abbrev pub callers_of : View → List ℕ
 callers_of v = map (λ h. h.caller) (held_as v.kind v)
 
--- Of the one caller of a view, which is idle: its number, what it took of its rows, stoppers and announcements, how many
--- groups it made, and how many operations these have.
-pub record Counted (shape : Shape) (v : View) (caller : ℕ) (stock : Stock) (operated : ℕ) : Type 0 where
+-- Of the one caller of a view, which is idle: its number, what it took of its rows and stoppers, how many groups it made, how
+-- many operations these have, and what it has at hand.
+pub record Counted (shape : Shape) (v : View) (caller : ℕ) (stock : Stock) (operated : ℕ) (a : Scratch) : Type 0 where
   pub caller_is : caller ≡ v.caller
   pub known : v.caller < shape.callers
   pub taken : stock.taken ≡ v.kept.taken
   pub stopped : stock.stopped ≡ v.kept.stopped
-  pub made : stock.made ≡ v.kept.made
   pub batch : stock.batch ≡ length v.kept.mine
   pub operated_is : operated ≡ length (operations v.kept.mine)
   -- each group has an operation
   pub batch_within : stock.batch ≤ operated
-  pub allowed : Allowed (lane_sizes shape) v.kept.mine [] v.kept.taken v.kept.stopped v.kept.made
+  pub allowed : Allowed (lane_sizes shape) v.kept.mine [] v.kept.taken v.kept.stopped
+  pub agrees : Agrees v.kept a
 
--- The seat of a pass between two calls. There is room for the values that a batch enqueues, and for those that it gets.
-pub record Rests (me : Me ℕ View) (shape : Shape) (caller : ℕ) (stock : Stock) (operated puts_room values_room : ℕ) : Type 0 where
+-- The seat of a pass between two calls, with what its calls have at hand.
+pub record Rests (me : Me ℕ View) (shape : Shape) (caller : ℕ) (stock : Stock) (operated : ℕ) (a : Scratch) : Type 0 where
   pub carries_none : me.1 ≡ []
   pub heard_none : me.0.heard ≡ []
   pub planned : me.0.shape ≡ shape
@@ -60,6 +62,5 @@ pub record Rests (me : Me ℕ View) (shape : Shape) (caller : ℕ) (stock : Stoc
   pub proper : IsProper shape.callers me.0.seen
   -- each of its callers is idle, and what it has seen has of it the groups that it made
   pub own : (c : ℕ) (k : Kept) → Holds c k (held_as me.0.kind me.0) → (k.point ≡ Idle) × (mine me.0.seen c ≡ k.mine)
-  pub alone : me.0.kind ≡ Alone → Counted shape me.0 caller stock operated
-  pub puts : shape.batch ≤ puts_room
-  pub values : shape.batch ≤ values_room
+  pub alone : me.0.kind ≡ Alone → Counted shape me.0 caller stock operated a
+  pub reserves : Reserves shape a

@@ -1,4 +1,4 @@
--- When a lane has no row left, or no announcement.
+-- When a lane has no row left for a caller.
 use Rattle.std.specs.Prelude.{ℕ, List}
 use Rattle.bq_model.specs.declared.op.Op.{Op}
 use Rattle.bq_model.specs.declared.group.Group.{Group}
@@ -8,8 +8,8 @@ use Rattle.bq_model.specs.Rooms.{PassesAllowance}
 use Rattle.core_model.specs.LaneSizes.{lane_sizes}
 use Rattle.core_model.specs.Start.{LacksRows}
 
--- The enqueues of caller c so far and these are more than its item rows, or these are several operations and it has made as
--- many such batches as it has announcements.
+-- The enqueues of caller c so far and these are more than its item rows, or these are several dequeues alone and it has made
+-- as many such batches as it has stoppers.
 abbrev pub LacksRoom : Shape → List Group → ℕ → List Op → Type 0
 LacksRoom shape history c ops = LacksRows (lane_sizes shape) (mine history c) ops
 

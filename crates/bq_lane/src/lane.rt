@@ -15,7 +15,7 @@ use crate::pass::{Book, Pass, Seated};
 use crate::start::{fill_puts, has_rows};
 use atomic_table::Table;
 use bq_model::{Answer, Answers, Batch, Lane, Op, OutOfMemory, Refusal, Shape};
-use core_model::{anns_taken, stoppers_taken};
+use core_model::stoppers_taken;
 use excess_count::count;
 use lane_rule::{LaneRule, View};
 use std::alloc::Global;
@@ -75,29 +75,28 @@ impl BqLane {
             out.clear();
             return Err(Refusal::Full);
         }
-        fill_puts(&mut seated.puts, ops);
-        seated.values.clear();
+        fill_puts(&mut seated.scratch.puts, ops);
+        seated.scratch.values.clear();
         let first = seated.stock.first_point(
             &self.shape,
             seated.caller,
             ops,
             counts,
-            seated.puts.as_slice(),
+            seated.scratch.puts.as_slice(),
         );
         perform(
             rt,
             &self.table.shared,
             &self.shape,
+            seated.caller,
             &mut seated.token,
             first,
             ops,
-            seated.puts.as_slice(),
-            &mut seated.values,
+            &mut seated.scratch,
             out,
         );
         seated.stock.taken += counts.enqs;
         seated.stock.stopped += stoppers_taken(ops.len(), counts.enqs);
-        seated.stock.made += anns_taken(ops.len());
         seated.stock.batch += 1;
         seated.operated += operations;
         Ok(())

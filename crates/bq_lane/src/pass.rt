@@ -8,6 +8,7 @@ ghost use Rattle.bq_model.specs.Grows.{the_caller, SawMore};
 ghost use Rattle.bq_lane.specs.Made.{first_view};
 ghost use Rattle.bq_lane.specs.Pass.{new_pass};
 
+use crate::scratch::Scratch;
 use bq_model::{Answers, OutOfMemory, Shape};
 use core_model::Stock;
 use lane_rule::{Token, Words, gather};
@@ -24,21 +25,18 @@ pub struct Seated {
     pub(crate) stock: Stock,
     /// How many operations the caller made.
     pub(crate) operated: u64,
-    /// The values that a command enqueues.
-    pub(crate) puts: Vec<u64>,
-    /// The values that it got.
-    pub(crate) values: Vec<u64>,
+    /// What a command has at hand.
+    pub(crate) scratch: Scratch,
 }
 
 impl Model for Seated {
-    ghost use Rattle.std.specs.Prelude.{vec_capacity};
     ghost use Rattle.bq_lane.specs.Pass.{PassState, Rests, callers_of};
 
     ghost Value = { PassState };
 
     ghost view = { λ p. record { table = p.token.table_id; shape = p.shape; callers = callers_of p.token.me.0; seen = p.token.me.0.seen } };
 
-    ghost invariant = { λ p. Rests p.token.me p.shape p.caller p.stock p.operated (vec_capacity p.puts) (vec_capacity p.values) };
+    ghost invariant = { λ p. Rests p.token.me p.shape p.caller p.stock p.operated p.scratch };
 }
 
 impl Seated {
@@ -53,17 +51,14 @@ impl Seated {
         requires known { caller < shape.now.callers }
         ensures { IfOk result (λ seated. seated ≡ new_pass token.table_id shape.now caller) }
     {
-        let room = shape.batch() as usize;
         Ok(Seated {
-            puts: Vec::with_capacity(alloc, room)?,
-            values: Vec::with_capacity(alloc, room)?,
+            scratch: Scratch::new(alloc, shape)?,
             token,
             shape: *shape,
             caller,
             stock: Stock {
                 taken: 0,
                 stopped: 0,
-                made: 0,
                 batch: 0,
             },
             operated: 0,
@@ -105,8 +100,7 @@ impl Seated {
             caller,
             stock,
             operated,
-            puts,
-            values,
+            scratch,
         } = self;
         let Seated {
             token: joined,
@@ -114,8 +108,7 @@ impl Seated {
             caller: _,
             stock: _,
             operated: _,
-            puts: _,
-            values: _,
+            scratch: _,
         } = other;
         Seated {
             token: gather(words, token, joined),
@@ -123,8 +116,7 @@ impl Seated {
             caller,
             stock,
             operated,
-            puts,
-            values,
+            scratch,
         }
     }
 }

@@ -3,26 +3,26 @@ ghost use Rattle.std.specs.Prelude.{◌≡◌, ℕ, ◌++◌, ◌+◌, ◌^◌, 
 ghost use Rattle.bq_model.specs.declared.op.Op.{Op};
 ghost use Rattle.bq_model.specs.Values.{enqueued};
 ghost use Rattle.excess_count.specs.Excess.{enqueue_count};
-ghost use Rattle.word_rows.specs.Sizes.{items_of};
+ghost use Rattle.word_rows.specs.Sizes.{items_of, stoppers_of};
 ghost use Rattle.core_model.specs.LaneSizes.{lane_sizes};
 ghost use Rattle.core_model.specs.Start.{has_rows};
 ghost use Rattle.core_model.specs.State.{Caller};
 
 use bq_model::{Op, Shape};
-use core_model::{Stock, anns_taken};
-use word_rows::items;
+use core_model::{Stock, stoppers_taken};
+use word_rows::{items, stoppers};
 
-/// Whether rows and an announcement are left for so many enqueues and operations.
+/// Whether rows are left for so many operations, of which so many are enqueues.
 pub fn has_rows(shape: &Shape, stock: Stock, enqs: u32, operations: usize) -> bool
     requires taken { stock.taken ≤ items_of shape.now }
-    requires made { stock.made ≤ shape.now.callers }
+    requires stopped { stock.stopped ≤ stoppers_of shape.now }
     requires few { enqs < 2 ^ 16 }
-    ensures { (k : Caller) (ops : List Op) → k.taken ≡ stock.taken → k.made ≡ stock.made → enqs ≡ enqueue_count ops → operations ≡ length ops
+    ensures { (k : Caller) (ops : List Op) → k.taken ≡ stock.taken → k.stopped ≡ stock.stopped → enqs ≡ enqueue_count ops → operations ≡ length ops
         → result ≡ has_rows (lane_sizes shape.now) k ops }
 {
-    let rows = stock.taken + enqs <= items(shape);
-    let anns = stock.made + anns_taken(operations) <= shape.callers();
-    rows && anns
+    let items_left = stock.taken + enqs <= items(shape);
+    let stoppers_left = stock.stopped + stoppers_taken(operations, enqs) <= stoppers(shape);
+    items_left && stoppers_left
 }
 
 // Appends the value that the operation enqueues, if any.

@@ -1,6 +1,6 @@
 //! Tests of the lane without locks, as it runs.
 //!
-//! `bench` makes a lane of one caller and gives it batches, `worked` has the worked examples, and `beside` and `four` have
+//! `bench` makes a lane of one caller and gives it batches, and `worked` has the worked examples. `beside` and `long` have
 //! callers in threads of their own.
 #![tactic(auto)]
 
@@ -9,6 +9,6 @@ mod bench;
 #[cfg(test)]
 mod beside;
 #[cfg(test)]
-mod four;
+mod long;
 #[cfg(test)]
 mod worked;

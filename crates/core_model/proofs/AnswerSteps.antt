@@ -20,13 +20,14 @@ use Rattle.excess_count.proofs.PairingLaws.{paired_right}
 use Rattle.core_model.specs.State.{Memory, Caller, State, write, own_group}
 use Rattle.core_model.specs.Fact.{linearized_is, has_read, is_reading}
 use Rattle.core_model.specs.Help.{before_it}
-use Rattle.core_model.specs.Step.{ended, stepped_with, reads_on, step_with, step_at}
+use Rattle.core_model.specs.Step.{stepped_with, reads_on, step_with, step_at, closes}
 use Rattle.core_model.specs.Facts.{Linearized, Holds, AtPoint}
 use Rattle.core_model.specs.Ghost.{Ghost, joint}
 use Rattle.core_model.specs.Lawful.{Lawful}
 use Rattle.core_model.proofs.Puts.{run_last}
 use Rattle.core_model.proofs.Rely.{third, world, some_none}
-use Rattle.core_model.proofs.Preserves.{known, stutters, point_changes_with, finishes, changed, write_read}
+use Rattle.core_model.proofs.Preserves.{known, stutters, point_changes_with, changed, closed}
+use Rattle.core_model.proofs.StoredAgain.{write_read}
 use Rattle.core_model.specs.declared.point.AnswerPoint.{AnswerPoint}
 use Rattle.bq_model.specs.declared.shape.Shape.{Shape}
 use Rattle.word_rows.specs.declared.content.Content.{Content}
@@ -36,6 +37,7 @@ use Rattle.core_model.specs.Act.{location}
 use Rattle.core_model.specs.Fits.{HelpFits}
 use Rattle.core_model.specs.Coded.{CourseFits}
 use Rattle.word_rows.specs.declared.location.AnnField.TheVariants as field
+use Rattle.core_model.specs.declared.point.Closing.TheVariants.{Batch}
 use Rattle.core_model.specs.declared.point.Point.TheVariants as point
 use Rattle.core_model.specs.declared.point.AnswerPoint.TheVariants as answer
 use Rattle.core_model.specs.Answer as answering
@@ -81,8 +83,11 @@ module _ (z : LaneSizes) (s : State) (L : Lawful z s) (c : ℕ) where
   on_read : (m r l : ℕ) (vs : List ℕ) (memory : Memory) → memory ≡ s.memory → Holds z (world s L.ghost) c (linearized_is true) → Holds z (world s L.ghost) c (has_read (s.callers c).started_at (own_group c (s.callers c)) m vs l r)
       → Lawful z (changed s c memory s.history (reads_on (length s.history) c (s.callers c) m r l vs))
   on_read m r zero vs memory is on rd =
-      subst (λ (y : Memory). Lawful z (changed s c y s.history (ended (length s.history) c me (paired me.ops m vs)))) (sym is)
-      (finishes z s L c (paired me.ops m vs) on.0 on.1 (record { before = rd.linearized.pre; behind = rd.linearized.post; splits = rd.linearized.stands; right = read_right rd.ann rd.position m vs rd.linearized rd.read rd.queued rd.left rd.values }) rd.linearized.since_start)
+      subst (λ (y : Memory). Lawful z (changed s c y s.history (closes (length s.history) c (record me { values = vs }) me.hold (Batch m)))) (sym is)
+      (closed z s c s.memory s.history (record me { values = vs }) (Batch m) (point_changes_with z s L c (point.Clear (Batch m)) vs on.1 (record {
+        call = (on, tt);
+        here = ((record { before = rd.linearized.pre; behind = rd.linearized.post; splits = rd.linearized.stands; right = read_right rd.ann rd.position m vs rd.linearized rd.read rd.queued rd.left rd.values }, rd.linearized.since_start), tt);
+      })))
   on_read m r (suc l) vs memory is on rd =
       subst (λ (y : Memory). Lawful z (changed s c y s.history (stepped_with me (point.Answer (answer.LoadLink m r l)) vs))) (sym is)
       (point_changes_with z s L c (point.Answer (answer.LoadLink m r l)) vs on.1 (record { call = (on, tt); here = (rd, tt) }))
@@ -101,6 +106,7 @@ module _ (z : LaneSizes) (s : State) (L : Lawful z s) (c : ℕ) where
     none_read : Holds z (world s L.ghost) c (has_read (s.callers c).started_at (own_group c (s.callers c)) (before_it h q) [] (successes_of h.counts (before_it h q)) h.old_head.row)
     none_read = let R = linearized.1 in record {
       ann = h.ann;
+      owner = (third f.here).owner;
       position = f.here.1.0.position;
       is_decided = f.here.1.0.is_decided;
       linearized = R;
@@ -126,6 +132,7 @@ module _ (z : LaneSizes) (s : State) (L : Lawful z s) (c : ℕ) where
       let here = R.rows rd.read (omega arith) in let next = R.rows (suc rd.read) (omega arith) in let inside = next.inside in
       record {
         ann = rd.ann;
+        owner = rd.owner;
         position = rd.position;
         is_decided = rd.is_decided;
         linearized = R;
@@ -156,6 +163,7 @@ module _ (z : LaneSizes) (s : State) (L : Lawful z s) (c : ℕ) where
       → Holds z (world s L.ghost) c (has_read (s.callers c).started_at (own_group c (s.callers c)) m ((s.callers c).values ++ s.memory.value r ∷ []) l r)
   value_read m r l rd = let R = rd.linearized in let x = rd.read in record {
     ann = rd.ann;
+    owner = rd.owner;
     position = rd.position;
     is_decided = rd.is_decided;
     linearized = R;

@@ -1,7 +1,6 @@
 -- Each step of the owner of a batch keeps the lane lawful, until its announcement is installed.
 use Rattle.std.proofs.Common.{Option, ◌≡◌, ◌≢◌, inl, inr, ℕ, suc, ◌+◌, ◌-◌, ◌*◌, ◌<◌, Bool, true, false, cond, [], length, sym, refl, ap, ◌∙◌, subst, arith, le_refl, Some, None, eqb, eqb-true}
 use Rattle.std.proofs.lemmas.List.{append-nil}
-use Rattle.std.proofs.lemmas.Nat.{div-mul-add}
 use mathlib.Core.Logic.{dite}
 use native.Mathlib.Decide.{ℕ_discrete}
 use Rattle.bq_model.specs.Values.{enqueued}
@@ -17,32 +16,31 @@ use Rattle.core_model.specs.declared.point.Draft.{Draft}
 use Rattle.core_model.specs.declared.point.Point.{Point}
 use Rattle.core_model.specs.Functions.{put, run}
 use Rattle.core_model.specs.LaneSizes.{LaneSizes}
-use Rattle.core_model.specs.Batches.{own_ann, owner_of}
+use Rattle.core_model.specs.Batches.{owner_of}
 use Rattle.core_model.specs.State.{Memory, Caller, command, State, write, head_in}
 use Rattle.core_model.specs.Act.{is_node, location}
 use Rattle.core_model.specs.Fact.{linearized_is, drafts, fills}
-use Rattle.core_model.specs.Help.{help_of}
+use Rattle.core_model.specs.Help.{help_of, own_help}
 use Rattle.core_model.specs.Step.{stepped, step_at, step_with}
 use Rattle.core_model.specs.Facts.{AllAgree, stored_before, Holds, AtPoint}
 use Rattle.core_model.specs.Ghost.{Stage, unused, waiting, decided, Ghost, World, at}
-use Rattle.core_model.specs.Lawful.{Headed, Announced, Told, IsTold, Pending, Waits, Unmade, Lawful}
+use Rattle.core_model.specs.Lawful.{Headed, Announced, Told, IsTold, Pending, Waits, Lawful}
 use Rattle.core_model.proofs.Puts.{put_here, put_else}
 use Rattle.core_model.proofs.Stable.{unused_stable}
 use Rattle.core_model.proofs.Rely.{third, world, unused_waits, unused_decides, waits_decides, one_some, some_none, Rely}
-use Rattle.core_model.proofs.Preserves.{kept_stepped, known, stutters, preserves, changed, same_places}
-use Rattle.core_model.proofs.BatchRows.{preserves_batch_value, preserves_batch_chain, preserves_batch_field, run_of, length-enqueued}
+use Rattle.core_model.proofs.Preserves.{kept_stepped, known, stutters, preserves, changed, guards_stable}
+use Rattle.core_model.proofs.StoredAgain.{same_places}
+use Rattle.core_model.proofs.BatchRows.{run_of, length-enqueued}
 use Rattle.core_model.specs.declared.point.Point.TheVariants.{Idle}
 use Rattle.core_model.specs.Batch.{on_head, retry}
 use Rattle.core_model.specs.declared.point.BatchPoint.{BatchPoint}
-use Rattle.core_model.proofs.Lookups.{node_found, finds}
+use Rattle.core_model.proofs.Lookups.{node_found}
 use Rattle.bq_model.specs.declared.shape.Shape.{Shape}
-use Rattle.word_rows.specs.declared.location.AnnField.{AnnField}
 use Rattle.word_rows.specs.declared.content.Content.{Content}
 use Rattle.word_rows.specs.Contents.{MayHold}
-use Rattle.core_model.specs.declared.course.Course.TheVariants.{GoesOn, Fills}
-use Rattle.core_model.specs.Fits.{DraftFits}
+use Rattle.core_model.specs.Fits.{DraftFits, HelpFits}
 use Rattle.core_model.specs.Coded.{PointFits, CourseFits}
-use Rattle.core_model.proofs.Fitting.{fresh_help, course_either, point_either}
+use Rattle.core_model.proofs.Fitting.{fresh_help, point_either}
 use Rattle.core_model.specs.declared.point.Back.TheVariants as back
 use Rattle.core_model.specs.declared.point.BatchPoint.TheVariants as batch
 use Rattle.core_model.specs.declared.point.ManyPoint.TheVariants as many
@@ -53,6 +51,8 @@ use Rattle.core_model.specs.Batch as batching
 use Rattle.core_model.proofs.Counting.{chain_pos}
 use Rattle.core_model.specs.Stopper.{chain_rows}
 use Rattle.excess_count.proofs.ExcessLaws.{count-ops}
+use Rattle.core_model.proofs.Stocks.{ann_inside}
+use Rattle.core_model.proofs.Reuses.{preserves_store_field, fresh_spare, preserves_store_all}
 
 -- a notice whose fields all agree with another one is that
 all_agreed : (tail : Option Place) (s n : Notice) → s.old_head ≡ n.old_head → AllAgree (stored_before field.OldHead) tail s n → s ≡ n
@@ -88,11 +88,11 @@ module _ (z : LaneSizes) (s : State) (L : Lawful z s) (c : ℕ) where
     off : Holds z (world s L.ghost) c (linearized_is false)
     off = f.call.0
 
-    is : Holds z (world s L.ghost) c (drafts (command (s.callers c)) d)
+    is : Holds z (world s L.ghost) c (drafts (command (s.callers c)) d.notice)
     is = f.call.1.0
 
     rows : Holds z (world s L.ghost) c (fills (s.callers c).taken (s.callers c).stopped d.notice (s.callers c).ops d.notice.counts.enqs (chain_rows d.notice.counts - 1))
-    rows = f.here.1.0
+    rows = third f.call
 
     fresh : G.stage a ≡ unused
     fresh = f.here.0.fresh
@@ -102,10 +102,10 @@ module _ (z : LaneSizes) (s : State) (L : Lawful z s) (c : ℕ) where
 
     -- all its words are written
     says : s.memory.notice a ≡ n
-    says = all_agreed (s.memory.old_tail a) (s.memory.notice a) n f.here.0.old_head (third f.here).fields
+    says = all_agreed (s.memory.old_tail a) (s.memory.notice a) n f.here.0.old_head f.here.1.0.fields
 
     unknown : s.memory.old_tail a ≡ None
-    unknown = tail_agreed (s.memory.old_tail a) (s.memory.notice a) n (third f.here).fields
+    unknown = tail_agreed (s.memory.old_tail a) (s.memory.notice a) n f.here.1.0.fields
 
     alone : G.ann ≡ None
     alone = (node_found z s L c n.old_head head).0
@@ -147,7 +147,7 @@ module _ (z : LaneSizes) (s : State) (L : Lawful z s) (c : ℕ) where
     W = record { memory = memory'; history = s.history; ghost = G' }
 
     abbrev t' : Point
-    t' = point.Help (help_of a back.Own) help.LoadOldHead
+    t' = point.Help (own_help d) help.StoreHazard
 
     abbrev k' : Caller
     k' = stepped me t'
@@ -174,6 +174,7 @@ module _ (z : LaneSizes) (s : State) (L : Lawful z s) (c : ℕ) where
         old_same = λ _ _ _ e. e;
         stood = λ x at. inr (ap G.stage (sym (one_some at)) ∙ fresh, ap stage' (sym (one_some at)) ∙ stage_here);
       };
+      holds = λ _ _ e. inl e;
       more = ([], sym (append-nil s.history));
     }
 
@@ -182,7 +183,7 @@ module _ (z : LaneSizes) (s : State) (L : Lawful z s) (c : ℕ) where
 
     announced' : Announced z memory' G'
     announced' = let A = L.announced in record {
-      inside = λ x e. subst (λ (y : ℕ). y < z.callers * z.callers) (one_some e) is.inside;
+      inside = λ x e. subst (λ (y : ℕ). y < z.callers * z.callers) (one_some e) (ann_inside z a c is.known own);
       installed = λ x e u. unused_waits u (ap stage' (sym (one_some e)) ∙ stage_here);
       old_head = λ x e. ap (λ (y : ℕ). (s.memory.notice y).old_head) (sym (one_some e)) ∙ (f.here.0.old_head ∙ old_head_at);
       waits = λ x e. (ap Some (sym (is_a x e)), L.list.head.none alone);
@@ -233,19 +234,15 @@ module _ (z : LaneSizes) (s : State) (L : Lawful z s) (c : ℕ) where
         (subst (λ (o : ℕ). Told z.home s.memory.value G.path (stage' a) (s.memory.notice a) o (put s.callers c k' o)) (sym own)
         (subst (λ (y : Notice × Caller). Told z.home s.memory.value G.path (stage' a) y.0 c y.1) (λ i. (sym says i, sym (put_here s.callers c k') i)) told_here))
 
-    -- an announcement that wasn't made is another one
-    unmade' : (e : ℕ) → e ≢ c → Unmade z stage' e (s.callers e)
-    unmade' e ne i from below = stage_else (own_ann z e i) (λ same. ne (sym (div-mul-add e z.callers i below) ∙ (ap (owner_of z) same ∙ own))) ∙ (L.callers e).unmade i from below
-
     pub installed : Lawful z (changed s c memory' s.history k')
     installed = preserves z s L c memory' s.history G' k' (λ _. ⊥) (λ _ x. absurd x) installing
-        (λ e ne. record { linearized = refl; made = refl; drafts = λ x at u. (stage_else x (λ same. ne (sym at ∙ (ap (owner_of z) same ∙ own))) ∙ u, refl, refl); unmade = unmade' e ne })
+        (λ e ne. record { linearized = refl; made = refl; drafts = λ x at u. (stage_else x (λ same. ne (sym at ∙ (ap (owner_of z) same ∙ own))) ∙ u, refl, refl); hazard = refl; held = refl })
         L.history
         L.queue
         (record { rows = L.list.rows; item_rows = L.list.item_rows; head = headed'; tail = L.list.tail; counts = L.list.counts; links = L.list.links })
         announced' told' pending'
         (let k = (L.callers c).knows in record {
-          unmade = λ i from below. stage_else (own_ann z c i) (is.taken i from) ∙ (L.callers c).unmade i from below;
+          guards = guards_stable z (world s G) W c me.hold refl refl installing.anns.installed (L.callers c).guards;
           own_groups = (L.callers c).own_groups;
           allowed = (L.callers c).allowed;
           knows = record {
@@ -254,7 +251,18 @@ module _ (z : LaneSizes) (s : State) (L : Lawful z s) (c : ℕ) where
             last = kept_stepped s.history c me t' me.values k.last;
             at_point = record {
               call = (
-                record { installed = there; inside = is.inside; old_head = λ l. absurd (omega arith); first = λ l. absurd (omega arith); last = λ l. absurd (omega arith); counts = λ l. absurd (omega arith) },
+                (λ _. (
+                  record {
+                    installed = there;
+                    kept = inr own;
+                    inside = ann_inside z a c is.known own;
+                    old_head = λ _. ap (λ (n : Notice). n.old_head) says;
+                    first = λ _. ap (λ (n : Notice). n.first) says;
+                    last = λ _. ap (λ (n : Notice). n.last) says;
+                    counts = λ _. ap (λ (n : Notice). n.counts) says;
+                  },
+                  own,
+                )),
                 (record { installed = there; owner = own; stands = λ i e. absurd (waits_decides stage_here e); only = λ x at _. sym (one_some at) }, tt),
               );
               here = tt;
@@ -265,14 +273,15 @@ module _ (z : LaneSizes) (s : State) (L : Lawful z s) (c : ℕ) where
           there u = unused_waits u stage_here
 
   install_found : (d : Draft) (x : HeadWord) → s.memory.head ≡ x → (b : Bool) → is_node x d.notice.old_head ≡ b → AtPoint z (world s L.ghost) c (s.callers c) (point.Batch d batch.Install)
-      → Lawful z (changed s c (write s.memory Head (cond b (OfHead (Ann d.ann d.notice.old_head.count)) (OfHead x))) s.history (stepped (s.callers c) (cond b (point.Help (help_of d.ann back.Own) help.LoadOldHead) (retry d))))
+      → Lawful z (changed s c (write s.memory Head (cond b (OfHead (Ann d.ann d.notice.old_head.count)) (OfHead x))) s.history (stepped (s.callers c) (cond b (point.Help (own_help d) help.StoreHazard) (retry d))))
   install_found d x at false _ f = again (eqb d.notice.counts.enqs 0) refl where
-    again : (b : Bool) → eqb d.notice.counts.enqs 0 ≡ b → Lawful z (changed s c (write s.memory Head (OfHead x)) s.history (stepped (s.callers c) (cond b (point.Many d many.LoadHead) (point.Batch d batch.LoadHead))))
+    again : (b : Bool) → eqb d.notice.counts.enqs 0 ≡ b
+        → Lawful z (changed s c (write s.memory Head (OfHead x)) s.history (stepped (s.callers c) (cond b (point.Many (record { ann = Some d.ann; notice = d.notice }) many.LoadHead) (point.Batch d batch.LoadHead))))
     again false _ = stutters z s L c (point.Batch d batch.LoadHead) Head (OfHead x) (ap OfHead at) (record { call = f.call; here = f.here.1 })
     again true e = let none = eqb-true d.notice.counts.enqs 0 e in let is = f.call.1.0 in let deqs = ap (λ (k : Counts). k.deqs) is.describes.counts in let enqs = ap (λ (k : Counts). k.enqs) is.describes.counts in
-        let all = count-ops (s.callers c).ops in let some = is.some in let w = third f.here in
-        stutters z s L c (point.Many d many.LoadHead) Head (OfHead x) (ap OfHead at)
-        (record { call = (f.call.0, (f.call.1.0, (f.here.1.0, ((none, omega arith), tt)))); here = (record { fresh = w.fresh; owner = w.owner; fields = tt }, tt) })
+        let all = count-ops (s.callers c).ops in let some = is.some in let w = f.here.0 in
+        stutters z s L c (point.Many (record { ann = Some d.ann; notice = d.notice }) many.LoadHead) Head (OfHead x) (ap OfHead at)
+        (record { call = (f.call.0, (f.call.1.0, (third f.call, ((none, omega arith), tt)))); here = (fresh_spare z s L c d.ann w.owner w.fresh, tt) })
   install_found d (Node p) at true same f = installed d f (at ∙ ap Node (same_places p d.notice.old_head same))
   install_found d (Ann y m) at true same f = absurd (cc same)
 
@@ -290,58 +299,37 @@ module _ (z : LaneSizes) (s : State) (L : Lawful z s) (c : ℕ) where
           describes = record { counts = y.counts; number = y.number; order0 = y.order0; order1 = y.order1; order2 = y.order2; order3 = y.order3 };
           some = x.some;
           last = x.last;
-          taken = x.taken;
-          inside = x.inside;
         },
-        tt,
+        (third f.call, tt),
       ),
     );
-    here = (f.here.0, (let w = f.here.1.0 in record { fresh = w.fresh; owner = w.owner; fields = w.fields }, tt));
+    here = (let w = f.here.0 in record { fresh = w.fresh; owner = w.owner; fields = w.fields }, tt);
   })
-  batch_head d (Ann a n) is f = stutters z s L c (point.Help (help_of a (back.Batch d)) help.LoadOldHead) Head (OfHead (Ann a n)) (ap OfHead is) (record { call = (finds z s L c a n is (back.Batch d), (f.call.0, (f.call.1.0, f.here))); here = tt })
+  batch_head d (Ann a n) is f = stutters z s L c (point.Help (help_of a n (back.Batch d)) help.StoreHazard) Head (OfHead (Ann a n)) (ap OfHead is) (record { call = ((λ own. absurd own), (f.call.0, (f.call.1.0, (third f.call, f.here)))); here = tt })
 
   preserves_batch_head : (d : Draft) → (s.callers c).point ≡ point.Batch d batch.LoadHead → Lawful z (step_at z s c (point.Batch d batch.LoadHead))
   preserves_batch_head d is = batch_head d s.memory.head refl (known z s L c (point.Batch d batch.LoadHead) is)
 
   -- each step of the owner of a batch, until that is installed
   pub preserves_batch : (d : Draft) (p : BatchPoint) → (s.callers c).point ≡ point.Batch d p → Lawful z (step_at z s c (point.Batch d p))
-  preserves_batch d (batch.StoreValue i r v) is = preserves_batch_value z s L c d i r v is
-  preserves_batch d (batch.StoreChain i r n) is = preserves_batch_chain z s L c d i r n is
-  preserves_batch d (batch.StoreField f) is = preserves_batch_field z s L c d f is
+  preserves_batch d (batch.StoreField f) is = preserves_store_field z s L c d f is
+  preserves_batch d (batch.StoreAll f) is = preserves_store_all z s L c d f is
   preserves_batch d batch.LoadHead is = preserves_batch_head d is
   preserves_batch d batch.Install is = preserves_install d is
 
 -- and it goes on with what fits
 module _ (s : Shape) where
   head_fits : (d : Draft) (x : HeadWord) → DraftFits s d → MayHold s Head (OfHead x) → PointFits s (batching.after_head d x)
-  head_fits d (Node p) a m = let n = a.1 in (
-    (a.0, record { old_head = m.1; first = n.first; last = n.last; counts = n.counts; number = n.number; order0 = n.order0; order1 = n.order1; order2 = n.order2; order3 = n.order3 }),
-    tt,
-  )
-  head_fits d (Ann n k) a m = (fresh_help s n (back.Batch d) m.1.0 a, tt)
+  head_fits d (Node p) a m = let n = a.1 in (a.0, record { old_head = m.1; first = n.first; last = n.last; counts = n.counts; number = n.number; order0 = n.order0; order1 = n.order1; order2 = n.order2; order3 = n.order3 })
+  head_fits d (Ann n k) a m = (fresh_help s n k (back.Batch d) m.1.0 m.1.1 a, tt)
 
-  field_fits : (f : AnnField) → batching.fits (batching.after_field f)
-  field_fits field.OldHead = tt
-  field_fits field.OldTail = tt
-  field_fits field.First = tt
-  field_fits field.Last = tt
-  field_fits field.Counts = tt
-  field_fits field.BatchNo = tt
-  field_fits field.Order0 = tt
-  field_fits field.Order1 = tt
-  field_fits field.Order2 = tt
-  field_fits field.Order3 = tt
-
-  either_fits : (b : Bool) (p q : BatchPoint) → batching.fits p → batching.fits q → batching.fits (cond b p q)
-  either_fits true p q a b = a
-  either_fits false p q a b = b
+  own_fits : (d : Draft) → DraftFits s d → HelpFits s (own_help d)
+  own_fits d a = record { ann = a.0; old_head = a.1.old_head; first = a.1.first; last = a.1.last; counts = a.1.counts; goes_back = tt }
 
   pub batch_fits : (d : Draft) (p : BatchPoint) (x : Content) → DraftFits s d → MayHold s (location (batching.act d p)) x → CourseFits s (batching.course d p x)
-  batch_fits d (batch.StoreValue i r v) x a m = course_either s (eqb (suc i) d.notice.counts.enqs) (GoesOn (point.Batch d (cond (eqb d.notice.counts.enqs 1) (batch.StoreField field.OldTail) (batch.StoreChain 0 d.notice.first (suc d.notice.first))))) (Fills d (suc i) (suc r))
-      (a, either_fits (eqb d.notice.counts.enqs 1) (batch.StoreField field.OldTail) (batch.StoreChain 0 d.notice.first (suc d.notice.first)) tt tt) a
-  batch_fits d (batch.StoreChain i r n) x a m = (a, either_fits (eqb (suc (suc i)) d.notice.counts.enqs) (batch.StoreField field.OldTail) (batch.StoreChain (suc i) n (suc n)) tt tt)
-  batch_fits d (batch.StoreField f) x a m = (a, field_fits f)
+  batch_fits d (batch.StoreField f) x a m = a
+  batch_fits d (batch.StoreAll f) x a m = a
   batch_fits d batch.LoadHead (OfHead x) a m = head_fits d x a m
-  batch_fits d batch.Install x a m = point_either s (is_node (head_in x) d.notice.old_head) (point.Help (help_of d.ann back.Own) help.LoadOldHead) (retry d) (fresh_help s d.ann back.Own a.0 tt, tt)
-      (point_either s (eqb d.notice.counts.enqs 0) (point.Many d many.LoadHead) (point.Batch d batch.LoadHead) (a, tt) (a, tt))
+  batch_fits d batch.Install x a m = point_either s (is_node (head_in x) d.notice.old_head) (point.Help (own_help d) help.StoreHazard) (retry d) (own_fits d a, tt)
+      (point_either s (eqb d.notice.counts.enqs 0) (point.Many (record { ann = Some d.ann; notice = d.notice }) many.LoadHead) (point.Batch d batch.LoadHead) (a, tt) a)
   batch_fits _ _ _ a m = absurd m.0

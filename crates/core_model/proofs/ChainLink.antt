@@ -101,6 +101,7 @@ module _ (K : Linking) where
     value_own = λ _ _ _. refl;
     value_path = λ _ _ _. refl;
     anns = decision.anns_decide K.z K.s K.L K.h.ann (K.L.ghost.head + K.L.ghost.rest) (len K) (waits K) (path' K) (chained' K) (spot' K) (K.L.ghost.rest + (len K)) (m K) (left K) (cause' K) (link' K) K.s.memory.old_tail (λ _ _. refl) (inl (omega arith));
+    holds = λ _ _ e. inl e;
     more = ((own K) ∷ [], refl);
   }
 

@@ -1,5 +1,5 @@
 -- The numbers of an empty lane can be coded, and those of a lane after the start of a command.
-use Rattle.std.proofs.Common.{◌≡◌, ◌≢◌, ℕ, suc, ◌+◌, ◌-◌, ◌*◌, ◌^◌, ◌<◌, ◌≤◌, Bool, true, false, cond, List, [], ◌∷◌, length, take, drop, get_or, sym, refl, ap, ◌∙◌, subst, arith, All, eqb}
+use Rattle.std.proofs.Common.{◌≡◌, ◌≢◌, ℕ, suc, ◌+◌, ◌-◌, ◌*◌, ◌^◌, ◌<◌, ◌≤◌, Bool, true, false, cond, List, [], ◌∷◌, length, take, drop, get_or, sym, refl, ap, ◌∙◌, subst, arith, All, eqb, None}
 use Rattle.std.proofs.lemmas.List.{length-append, length-take}
 use Rattle.std.proofs.lemmas.List.Elements.{All-filter}
 use Rattle.std.proofs.Math.Pow.{pow_mono}
@@ -23,13 +23,13 @@ use Rattle.word_rows.proofs.OrderLemmas.{enqueue_bits-lt}
 use Rattle.word_rows.proofs.SizeLemmas.{rows_within}
 use Rattle.core_model.specs.declared.point.Point.TheVariants as point
 use Rattle.core_model.specs.declared.point.EnqueuePoint.TheVariants as enq
-use Rattle.core_model.specs.declared.point.BatchPoint.TheVariants as batch
+use Rattle.core_model.specs.declared.point.FillPoint.TheVariants as fill
 use Rattle.core_model.specs.declared.point.ManyPoint.TheVariants as many
 use Rattle.core_model.specs.Functions.{put}
 use Rattle.core_model.specs.LaneSizes.{LaneSizes, lane_sizes, item}
 use Rattle.core_model.specs.State.{Caller, State, command}
 use Rattle.core_model.specs.Start.{PassesAllowance, IsCommand, has_rows, draft_of, first_point, started, refused, start, opening, batch_point}
-use Rattle.core_model.specs.Fits.{DraftFits}
+use Rattle.core_model.specs.Fits.{NoticeFits}
 use Rattle.core_model.specs.Coded.{PointFits, IsCoded}
 use Rattle.core_model.specs.Lawful.{Lawful}
 use Rattle.core_model.proofs.Puts.{put_here, put_all}
@@ -39,7 +39,7 @@ use Rattle.core_model.proofs.Ends.{idle_groups}
 use Rattle.core_model.proofs.Tables.{opens_as_its_table}
 use Rattle.core_model.specs.Stopper.{chain_rows}
 use Rattle.core_model.specs.Facts.{IsDraft}
-use Rattle.core_model.specs.declared.point.Draft.{Draft}
+use Rattle.core_model.specs.declared.point.Notice.{Notice}
 use Rattle.core_model.proofs.Counting.{chain_pos}
 use Rattle.core_model.proofs.Rely.{third}
 
@@ -111,32 +111,29 @@ module _ (key : Shape) (s : State) (L : Lawful (lane_sizes key) s) (R : IsCoded 
       counts_fit : (enqueue_count ops < 2 ^ 16) × (dequeue_count ops < 2 ^ 16) × (excess_of ops < 2 ^ 16)
       counts_fit = let all = count-ops ops in let x = excess_of-le ops in let most : key.batch ≤ 256 = key.some_batch.1 in let few = short in (omega arith, omega arith, omega arith)
 
-      abbrev d : Draft
+      abbrev d : Notice
       d = draft_of z c (s.callers c) ops
 
       -- its rows are those of the lane, and its numbers fit
-      draft_fits : IsDraft z c (command (s'.callers c)) d → ((l : ℕ) → l < chain_rows d.notice.counts → d.notice.first + l < rows_of key) → DraftFits key d
-      draft_fits is_draft free = let some = chain_pos d.notice.counts in let last = is_draft.last in
-          let from : d.notice.first + 0 < rows_of key = free 0 some in
-          let end : d.notice.first + (chain_rows d.notice.counts - 1) < rows_of key = free (chain_rows d.notice.counts - 1) (omega arith) in
-          let row = rows_within key in (
-            is_draft.inside,
-            record {
-              old_head = ((omega arith), (omega arith));
-              first = omega arith;
-              last = omega arith;
-              counts = counts_fit;
-              number = ((batch_fits (length ops) is left), at);
-              order0 = order_fits ops 0;
-              order1 = order_fits ops 1;
-              order2 = order_fits ops 2;
-              order3 = order_fits ops 3;
-            },
-          )
+      draft_fits : IsDraft z c (command (s'.callers c)) d → ((l : ℕ) → l < chain_rows d.counts → d.first + l < rows_of key) → NoticeFits key d
+      draft_fits is_draft free = let some = chain_pos d.counts in let last = is_draft.last in
+          let from : d.first + 0 < rows_of key = free 0 some in
+          let end : d.first + (chain_rows d.counts - 1) < rows_of key = free (chain_rows d.counts - 1) (omega arith) in
+          let row = rows_within key in record {
+            old_head = ((omega arith), (omega arith));
+            first = omega arith;
+            last = omega arith;
+            counts = counts_fit;
+            number = ((batch_fits (length ops) is left), at);
+            order0 = order_fits ops 0;
+            order1 = order_fits ops 1;
+            order2 = order_fits ops 2;
+            order3 = order_fits ops 3;
+          }
 
       many_fit : (b : Bool) → first_point z c (s.callers c) ops ≡ batch_point ops d b → PointFits key (batch_point ops d b)
-      many_fit true first = let f = known z s' begun_lawful c (point.Many d many.LoadHead) (ap (λ (k : Caller). k.point) here ∙ first) in (draft_fits f.call.1.0 (λ l below. ((third f.call).free l below).inside), tt)
-      many_fit false first = let f = known z s' begun_lawful c (point.Batch d (batch.StoreValue 0 d.notice.first (get_or (enqueued ops) 0 0))) (ap (λ (k : Caller). k.point) here ∙ first) in (draft_fits f.call.1.0 (λ l below. (f.here.0.free l below).inside), values 0)
+      many_fit true first = let f = known z s' begun_lawful c (point.Many (record { ann = None; notice = d }) many.LoadHead) (ap (λ (k : Caller). k.point) here ∙ first) in ((tt, draft_fits f.call.1.0 (λ l below. ((third f.call).free l below).inside)), tt)
+      many_fit false first = let f = known z s' begun_lawful c (point.Fill d (fill.StoreValue 0 d.first (get_or (enqueued ops) 0 0))) (ap (λ (k : Caller). k.point) here ∙ first) in (draft_fits f.call.1.0 (λ l below. (f.here.0.free l below).inside), values 0)
 
       point_fits : (xs : List Op) → xs ≡ ops → PointFits key (first_point z c (s.callers c) xs)
       point_fits [] e = tt

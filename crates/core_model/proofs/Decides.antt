@@ -1,6 +1,6 @@
 -- A help of dequeues alone that finds enough values before the tail decides the batch: the group of its owner joins the
 -- history, and no row is linked.
-use Rattle.std.proofs.Common.{◌≡◌, ◌≢◌, inr, ℕ, suc, ◌+◌, ◌<◌, ◌≤◌, [], ◌∷◌, ◌++◌, take, sym, refl, ap, ◌∙◌, subst, arith, le_refl, ◌-◌, List, length, drop, Option, Some, None}
+use Rattle.std.proofs.Common.{◌≡◌, ◌≢◌, inr, ℕ, suc, ◌+◌, ◌<◌, ◌≤◌, [], ◌∷◌, ◌++◌, take, sym, refl, ap, ◌∙◌, subst, arith, le_refl, ◌-◌, List, length, drop, Option, Some, None, inl}
 use Rattle.std.proofs.lemmas.List.{append-nil}
 use Rattle.bq_model.specs.History.{last_queue}
 use Rattle.excess_count.specs.Got.{values_from}
@@ -156,6 +156,7 @@ module _ (z : LaneSizes) (s : State) (L : Lawful z s) (c : ℕ) (h : Help) (p : 
     value_own = λ _ _ _. refl;
     value_path = λ _ _ _. refl;
     anns = decision.anns_decide z s L h.ann on.position 0 waits L.ghost.path L.ghost.chained L.ghost.spot L.ghost.rest many (L.ghost.rest - many) L.ghost.cause s.memory.link old' old_else (inr refl);
+    holds = λ _ _ e. inl e;
     more = (own ∷ [], refl);
   }
 

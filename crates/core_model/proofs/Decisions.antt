@@ -6,26 +6,31 @@ use Rattle.bq_model.specs.History.{last_queue}
 use Rattle.bq_model.specs.Values.{enqueued}
 use Rattle.word_rows.specs.declared.place.Place.{Place}
 use Rattle.word_rows.specs.declared.link_word.LinkWord.{LinkWord}
+use Rattle.core_model.specs.declared.point.HelpPoint.{HelpPoint}
+use Rattle.core_model.specs.declared.point.HelpPoint.TheVariants as help
 use Rattle.core_model.specs.declared.point.Back.{Back}
 use Rattle.core_model.specs.declared.point.Back.TheVariants as back
 use Rattle.core_model.specs.declared.point.Point.{Point}
 use Rattle.core_model.specs.declared.point.Point.TheVariants as point
 use Rattle.core_model.specs.Functions.{put, run}
 use Rattle.core_model.specs.LaneSizes.{LaneSizes}
-use Rattle.core_model.specs.Batches.{own_ann, owner_of}
+use Rattle.core_model.specs.Batches.{owner_of}
 use Rattle.core_model.specs.State.{command, State, own_group, Memory, Caller}
-use Rattle.core_model.specs.Fact.{Fact, reads, takes_effect, since, kept}
+use Rattle.core_model.specs.Fact.{Fact, reads, takes_effect, since, kept, helps}
 use Rattle.core_model.specs.Help.{back_facts}
-use Rattle.core_model.specs.Facts.{Linearized, Holds, Each, AtPoint, Knows, NotToCome}
+use Rattle.core_model.specs.Facts.{Linearized, Holds, Each, AtPoint, Knows, NotToCome, IsOwn}
 use Rattle.core_model.specs.Ghost.{unused, decided, positions, Stage, waiting, Ghost, World, at}
-use Rattle.core_model.specs.Lawful.{IsOwn, HelpsOwn, Told, OwnGroups, Lawful, shown_queue, InOrder, Bound, Standing, Announced, Pending}
+use Rattle.core_model.specs.Lawful.{HelpsOwn, Told, OwnGroups, Lawful, shown_queue, InOrder, Bound, Standing, Announced, Pending}
 use Rattle.core_model.proofs.Puts.{put_here, put_else, put_all}
 use Rattle.core_model.proofs.Groups.{mine-push_other}
 use Rattle.core_model.specs.Help as helping
-use Rattle.core_model.proofs.Stable.{shared_stable, Shared, knows_stable, helping_shared, all_shared_stable, unused_stable}
+use Rattle.core_model.proofs.Stable.{shared_stable, knows_stable, all_shared_stable, unused_stable}
+use Rattle.core_model.proofs.SharedFacts.{Shared, helping_shared}
 use Rattle.core_model.proofs.Rely.{world, unused_waits, unused_decides, one_position, Rely, waits_decides, one_some, some_none, AnnRely}
 use Rattle.core_model.proofs.Joins.{joins_proper, joins_mine}
 use Rattle.bq_model.specs.declared.group.Group.{Group}
+use Rattle.core_model.specs.declared.point.Help.{Help}
+use Rattle.core_model.proofs.Preserves.{guards_stable}
 
 module _ (z : LaneSizes) (s : State) (L : Lawful z s) (a e : ℕ) where
   abbrev o : ℕ
@@ -48,13 +53,14 @@ module _ (z : LaneSizes) (s : State) (L : Lawful z s) (a e : ℕ) where
   module _ (Touch : ℕ → Type 0) (W : World) (rely : Rely z Touch (world s L.ghost) W) (at_head : L.ghost.ann ≡ Some a) (waits : L.ghost.stage a ≡ waiting)
       (touches : (r : ℕ) → Touch r → (z.home r ≡ owner_of z a) × NotToCome z (owner_of z a) (s.callers (owner_of z a)).taken (s.callers (owner_of z a)).stopped r)
       (linearized : (d : ℕ) → W.ghost.linearized d ≡ put L.ghost.linearized (owner_of z a) true d) (alone : (x : ℕ) → W.ghost.ann ≡ Some x → x ≡ a) (decided_here : W.ghost.stage a ≡ decided e)
+      (hazard : (d : ℕ) → W.memory.ann_hazard d ≡ s.memory.ann_hazard d) (held : (d : ℕ) → W.ghost.held d ≡ L.ghost.held d)
       (others : (x : ℕ) → x ≢ a → (W.ghost.stage x ≡ L.ghost.stage x) × (W.memory.notice x ≡ s.memory.notice x) × (W.memory.old_tail x ≡ s.memory.old_tail x))
       (here : Linearized z W a e (s.callers (owner_of z a)).started_at (own_group (owner_of z a) (s.callers (owner_of z a)))) where
     abbrev G : Ghost
     G = L.ghost
 
     -- What a helper of the own announcement knows stays; and where that is this one, its group stands in the history.
-    sh : (f : Fact) → Shared f → Holds z (world s G) o f → Holds z W o f
+    sh : (f : Fact) → Shared (world s L.ghost) W (owner_of z a) f → Holds z (world s G) o f → Holds z W o f
     sh f shared x = shared_stable z Touch (world s G) W rely o f shared x
 
     own_takes_effect : (x : ℕ) → Holds z (world s G) o (takes_effect x ko.started_at own) → Holds z W o (takes_effect x ko.started_at own)
@@ -73,25 +79,34 @@ module _ (z : LaneSizes) (s : State) (L : Lawful z s) (a e : ℕ) where
     back_own x (back.Batch d) bad f = absurd bad
     back_own x (back.Many d) bad f = absurd bad
 
+    read_before : (x : Help) (p : HelpPoint) → Holds z (world s G) o (helping.known_by x p) → Holds z W o (helping.known_by x p)
+    read_before x help.StoreHazard f = sh (helps x) tt f
+    read_before x help.LoadHead f = sh (helps x) tt f
+    read_before x help.LoadOldHead f = sh (reads 0 x) (held o) f
+    read_before x help.LoadFirst f = sh (reads 1 x) (held o) f
+    read_before x help.LoadLast f = sh (reads 2 x) (held o) f
+    read_before x help.LoadCounts f = sh (reads 3 x) (held o) f
+    read_before x _ f = sh (reads 4 x) (held o) f
+
     helps_stable : (t : Point) → HelpsOwn t → AtPoint z (world s G) o ko t → AtPoint z W o ko t
     helps_stable (point.Help x p) own' f = record {
-      call = (sh (reads (helping.loaded p) x) tt f.call.0, back_own x.ann x.back own' f.call.1);
-      here = all_shared_stable z Touch (world s G) W rely o (helping.knows x p) (helping_shared x p) f.here;
+      call = (read_before x p f.call.0, back_own x.ann x.back own' f.call.1);
+      here = all_shared_stable z Touch (world s G) W rely o (helping.knows x p) (helping_shared (world s G) W o (hazard o) x p) f.here;
     }
     helps_stable _ bad f = absurd bad
 
     owner_knows : HelpsOwn ko.point → Knows z W o ko
-    owner_knows helps = let f = (L.callers o).knows in record {
+    owner_knows helping_own = let f = (L.callers o).knows in record {
       unused = unused_stable z Touch (world s G) W rely o ko.taken ko.stopped (λ r t. (touches r t).1) f.unused;
       started = sh (since ko.started_at) tt f.started;
       last = sh (kept ko) tt f.last;
-      at_point = helps_stable ko.point helps f.at_point;
+      at_point = helps_stable ko.point helping_own f.at_point;
     }
 
     pub all_know : HelpsOwn (s.callers (owner_of z a)).point → (d : ℕ) → Knows z W d (s.callers d)
-    all_know helps d = dite (ℕ_discrete d o) (λ same. subst (λ (y : ℕ). Knows z W y (s.callers y)) (sym same) (owner_knows helps))
+    all_know helping_own d = dite (ℕ_discrete d o) (λ same. subst (λ (y : ℕ). Knows z W y (s.callers y)) (sym same) (owner_knows helping_own))
         (λ apart. knows_stable z Touch (world s G) W rely d (λ r home t. apart (sym home ∙ (touches r t).0)) (linearized d ∙ put_else G.linearized o true d apart)
-        (λ x _ u. let w = others x (λ same. unused_waits u (ap G.stage same ∙ waits)) in (w.0 ∙ u, w.1, w.2)) (s.callers d) (L.callers d).knows)
+        (λ x _ u. let w = others x (λ same. unused_waits u (ap G.stage same ∙ waits)) in (w.0 ∙ u, w.1, w.2)) (hazard d) (held d) (s.callers d) (L.callers d).knows)
 
 -- The announcement in HEAD waits, and is decided behind the place i, with n rows linked.
 module _ (z : LaneSizes) (s : State) (L : Lawful z s) (a i n : ℕ) (waits : L.ghost.stage a ≡ waiting) where
@@ -244,10 +259,10 @@ module _ (z : LaneSizes) (s : State) (L : Lawful z s) (a i n : ℕ) (waits : L.g
         told = λ x at_x. subst (λ (y : ℕ). Told z.home s.memory.value path' (stage' y) (s.memory.notice y) (owner_of z y) (s.callers (owner_of z y))) (sym (alone x at_x)) told_after;
         pending = λ x w. absurd (none_waits x w);
         callers = λ d. record {
-          unmade = λ j from below. let u = (L.callers d).unmade j from below in stage_else (own_ann z d j) (λ same. unused_waits u (ap g.stage same ∙ waits)) ∙ u;
+          guards = guards_stable z (world s L.ghost) decided_world d (s.callers d).hold refl refl rely.anns.installed (L.callers d).guards;
           own_groups = all_groups z s L a i waiting_rows.not_yet d;
           allowed = (L.callers d).allowed;
-          knows = all_know z s L a i Touch decided_world rely at_head waits touches (λ _. refl) alone here_decided (λ x apart. (stage_else x apart, refl, old_else x apart)) linearized told_now.helps d;
+          knows = all_know z s L a i Touch decided_world rely at_head waits touches (λ _. refl) alone here_decided (λ _. refl) (λ _. refl) (λ x apart. (stage_else x apart, refl, old_else x apart)) linearized told_now.helps d;
         };
       } where
         told_after : Told z.home s.memory.value path' (stage' a) (s.memory.notice a) owner kept_by

@@ -12,6 +12,7 @@ use Rattle.word_rows.specs.declared.link_word.LinkWord.{LinkWord}
 use Rattle.word_rows.specs.declared.link_word.LinkWord.TheVariants.{Nil, Single, Chain, Shut}
 use Rattle.word_rows.specs.declared.location.Location.TheVariants.{Head, Link, Value}
 use Rattle.word_rows.specs.declared.content.Content.TheVariants.{OfHead, OfLink, OfValue}
+use Rattle.core_model.specs.declared.point.Closing.TheVariants.{Plain}
 use Rattle.core_model.specs.declared.course.Course.TheVariants.{GoesOn, Ends}
 use Rattle.core_model.specs.Functions.{run}
 use Rattle.core_model.specs.LaneSizes.{LaneSizes}
@@ -23,7 +24,8 @@ use Rattle.core_model.specs.Facts.{Holds, AtPoint}
 use Rattle.core_model.specs.Ghost.{Ghost}
 use Rattle.core_model.specs.Lawful.{Lawful}
 use Rattle.core_model.proofs.Rely.{third, fourth, world}
-use Rattle.core_model.proofs.Preserves.{known, stutters, changed, same_places, write_read, stutters_at, point_changes}
+use Rattle.core_model.proofs.Preserves.{known, stutters, changed, stutters_at, point_changes}
+use Rattle.core_model.proofs.StoredAgain.{same_places, write_read}
 use Rattle.std.proofs.lemmas.Bool.{and_from}
 use mathlib.Core.Logic.{dite}
 use native.Mathlib.Decide.{dec_le}
@@ -31,7 +33,7 @@ use Rattle.core_model.specs.declared.point.Point.TheVariants.{Idle}
 use Rattle.core_model.specs.Help.{help_of}
 use Rattle.core_model.specs.declared.point.DequeuePoint.{DequeuePoint}
 use Rattle.core_model.proofs.Tails.{exchanges, with_memory}
-use Rattle.core_model.proofs.Lookups.{on_list, next_found, node_found, finds}
+use Rattle.core_model.proofs.Lookups.{on_list, next_found, node_found}
 use Rattle.bq_model.specs.declared.shape.Shape.{Shape}
 use Rattle.word_rows.specs.declared.content.Content.{Content}
 use Rattle.word_rows.specs.Contents.{MayHold}
@@ -56,7 +58,7 @@ module _ (z : LaneSizes) (s : State) (L : Lawful z s) (c : ℕ) where
   deq_head (Node p) is f = let node = (node_found z s L c p is).1 in let count = ap (λ (q : Place). q.count) node in
       stutters z s L c (point.Dequeue (deq.LoadLink p)) Head (OfHead (Node p)) (ap OfHead is)
       (record { call = f.call; here = (on_list z s L c p G.head count (ap (λ (q : Place). q.row) node) (le_refl _) (omega arith), (omega arith, tt)) })
-  deq_head (Ann a n) is f = stutters z s L c (point.Help (help_of a back.Dequeue) help.LoadOldHead) Head (OfHead (Ann a n)) (ap OfHead is) (record { call = (finds z s L c a n is back.Dequeue, f.call); here = tt })
+  deq_head (Ann a n) is f = stutters z s L c (point.Help (help_of a n back.Dequeue) help.StoreHazard) Head (OfHead (Ann a n)) (ap OfHead is) (record { call = ((λ own. absurd own), f.call); here = tt })
 
   preserves_deq_head : (s.callers c).point ≡ (point.Dequeue deq.LoadHead) → Lawful z (step_at z s c (point.Dequeue deq.LoadHead))
   preserves_deq_head is = deq_head s.memory.head refl (known z s L c (point.Dequeue deq.LoadHead) is)
@@ -104,8 +106,8 @@ module _ (z : LaneSizes) (s : State) (L : Lawful z s) (c : ℕ) where
 
   -- HEAD moves by one row
   moved : (p : Place) (n v : ℕ) → AtPoint z (world s L.ghost) c (s.callers c) (point.Dequeue (deq.MoveHead p n v)) → s.memory.head ≡ Node p
-      → Lawful z (changed s c (record s.memory { head = Node (behind p n) }) (s.history ++ own_group c (s.callers c) ∷ []) (last z s L c (Got v ∷ [])))
-  moved p n v f head = head_moved z s L c p n 1 (Got v ∷ []) f.call.0 op.1 some head (let l = there.0 in omega arith) (sym (next.there G.head count).1 ∙ ap G.path (let e : suc G.head ≡ G.head + 1 = omega arith in e)) (let l = f.here.1.0 in let cnt = count in omega arith)
+      → Lawful z (changed s c (record s.memory { head = Node (behind p n) }) (s.history ++ own_group c (s.callers c) ∷ []) (last z s L c (Plain (Got v))))
+  moved p n v f head = head_moved z s L c p n 1 (Plain (Got v)) f.call.0 op.1 some head (let l = there.0 in omega arith) (sym (next.there G.head count).1 ∙ ap G.path (let e : suc G.head ≡ G.head + 1 = omega arith in e)) (let l = f.here.1.0 in let cnt = count in omega arith)
       (ap (λ (q : List ℕ). answers_from q (Deq ∷ [])) (sym queue_was) ∙ ap (answers_from (last_queue s.history)) (sym op.0))
       (ap (queue_from (last_queue s.history)) op.0 ∙ (ap (λ (q : List ℕ). queue_from q (Deq ∷ [])) queue_was ∙ ap (λ (j : ℕ). run value_at j (G.rest - 1)) (let e : suc (suc G.head) ≡ suc G.head + 1 = omega arith in e))) where
         op : Holds z (world s L.ghost) c (is_op (s.callers c).ops Deq)
@@ -133,7 +135,7 @@ module _ (z : LaneSizes) (s : State) (L : Lawful z s) (c : ℕ) where
 
   move_head : (p : Place) (n v : ℕ) (x : HeadWord) → s.memory.head ≡ x → (b : Bool) → is_node x p ≡ b → AtPoint z (world s L.ghost) c (s.callers c) (point.Dequeue (deq.MoveHead p n v))
       → Lawful z (changed s c (write s.memory Head (cond b (OfHead (Node (behind p n))) (OfHead x))) (history_after b s.history own)
-      (followed (length (history_after b s.history own)) c (s.callers c) (cond b (Ends (Got v)) (GoesOn (point.Dequeue deq.LoadHead)))))
+      (followed z (length (history_after b s.history own)) c (s.callers c) (cond b (Ends (Got v)) (GoesOn (point.Dequeue deq.LoadHead)))))
   move_head p n v x is false apart f = stutters z s L c (point.Dequeue deq.LoadHead) Head (OfHead x) (ap OfHead is) (record { call = f.call; here = tt })
   move_head p n v (Node q) is true same f = moved p n v f (is ∙ ap Node (same_places q p same))
   move_head p n v (Ann a m) is true same f = absurd (cc same)
@@ -143,8 +145,8 @@ module _ (z : LaneSizes) (s : State) (L : Lawful z s) (c : ℕ) where
 
   -- the queue is empty: the command takes effect and ends
   empty : (p : Place) → s.memory.link p.row ≡ Nil → AtPoint z (world s L.ghost) c (s.callers c) (point.Dequeue (deq.LoadLink p)) → Lawful z (step_with z s c (point.Dequeue (deq.LoadLink p)) (OfLink Nil))
-  empty p nil f = subst (λ (m : Memory). Lawful z (changed s c m (s.history ++ own ∷ []) (last z s L c (Empty ∷ [])))) (sym (ap (write s.memory (Link p.row)) (ap OfLink (sym nil)) ∙ write_read s.memory (Link p.row)))
-      (found_empty z s L c (Empty ∷ []) f.call.0 op.1 some (ap (λ (q : List ℕ). answers_from q (Deq ∷ [])) (sym none) ∙ ap (answers_from (last_queue s.history)) (sym op.0))
+  empty p nil f = subst (λ (m : Memory). Lawful z (changed s c m (s.history ++ own ∷ []) (last z s L c (Plain Empty)))) (sym (ap (write s.memory (Link p.row)) (ap OfLink (sym nil)) ∙ write_read s.memory (Link p.row)))
+      (found_empty z s L c (Plain Empty) f.call.0 op.1 some (ap (λ (q : List ℕ). answers_from q (Deq ∷ [])) (sym none) ∙ ap (answers_from (last_queue s.history)) (sym op.0))
       (ap (queue_from (last_queue s.history)) op.0 ∙ (ap (λ (q : List ℕ). queue_from q (Deq ∷ [])) none ∙ sym none))) where
         op : Holds z (world s L.ghost) c (is_op (s.callers c).ops Deq)
         op = f.call.1.0
@@ -184,7 +186,7 @@ module _ (z : LaneSizes) (s : State) (L : Lawful z s) (c : ℕ) where
 module _ (s : Shape) where
   head_fits : (x : HeadWord) → MayHold s Head (OfHead x) → PointFits s (dequeue.after_head x)
   head_fits (Node p) m = m.1
-  head_fits (Ann n k) m = (fresh_help s n back.Dequeue m.1.0 tt, tt)
+  head_fits (Ann n k) m = (fresh_help s n k back.Dequeue m.1.0 m.1.1 tt, tt)
 
   link_fits : (p : Place) (x : LinkWord) → PlaceFits (limits_of s) p → MayHold s (Link p.row) (OfLink x) → CourseFits s (dequeue.after_link p x)
   link_fits p Nil a m = tt

@@ -28,7 +28,7 @@ use Rattle.core_model.specs.Lawful.{shown_queue, head_word, Listed, ItemRows, He
 use Rattle.core_model.proofs.Puts.{put_here, put_else, run_last, run_same}
 use Rattle.core_model.proofs.Groups.{mine-push_other}
 use Rattle.core_model.proofs.Stable.{kept_stable, unused_stable}
-use Rattle.core_model.proofs.Rely.{third, fourth, world, anns_same, Rely}
+use Rattle.core_model.proofs.Rely.{third, fourth, world, anns_same, Rely, true_false}
 use Rattle.core_model.proofs.Preserves.{kept_stepped, known, stutters, preserves, changed, drafts_same, told_on, waits_on, waits_there}
 use Rattle.core_model.proofs.Joins.{linearizes_proper, linearizes_operations, linearizes_mine}
 use Rattle.core_model.specs.Batches.{owner_of}
@@ -188,6 +188,7 @@ module _ (z : LaneSizes) (s : State) (L : Lawful z s) (c : ℕ) where
       value_own = λ _ _ _. refl;
       value_path = λ _ _ _. refl;
       anns = anns_same z (world s G) W refl refl refl refl refl refl refl;
+      holds = λ _ _ e. inl e;
       more = (own ∷ [], refl);
     }
 
@@ -204,7 +205,7 @@ module _ (z : LaneSizes) (s : State) (L : Lawful z s) (c : ℕ) where
       last = kept';
       at_point = record {
         call = (
-          (put_here G.linearized c true, off.1),
+          (put_here G.linearized c true, off.1, λ no. absurd (true_false no)),
           ((record { before = s.history; behind = []; splits = sym (append-nil (s.history ++ own ∷ [])); right = sym (ap (answers_from (last_queue s.history)) op.0) }, now), tt),
         );
         here = (
@@ -245,7 +246,7 @@ module _ (z : LaneSizes) (s : State) (L : Lawful z s) (c : ℕ) where
 
     pub appended : Lawful z (changed s c memory' (s.history ++ own_group c (s.callers c) ∷ []) k')
     appended = preserves z s L c memory' (s.history ++ own ∷ []) G' k' (λ r. r ≡ x.row) (λ r is. ap z.home is ∙ o.0.at_home) rely
-        (λ d apart. record { linearized = put_else G.linearized c true d apart; made = mine-push_other s.history own d apart; drafts = drafts_same z (world s G) W refl refl refl d; unmade = (L.callers d).unmade })
+        (λ d apart. record { linearized = put_else G.linearized c true d apart; made = mine-push_other s.history own d apart; drafts = drafts_same z (world s G) W refl refl refl d; hazard = refl; held = refl })
         (linearizes_proper z s L c (Enq x.value) off.0 op) queue'
         (record {
           rows = listed';
@@ -255,7 +256,7 @@ module _ (z : LaneSizes) (s : State) (L : Lawful z s) (c : ℕ) where
           counts = let more = linearizes_operations z s L c (Enq x.value) off.0 op in let was = L.list.counts in omega arith;
           links = links_put z.rows s.memory.link p.row (Single x.row) o.0.inside L.list.links;
         })
-        announced' told' pending' (record { unmade = (L.callers c).unmade; own_groups = groups'; allowed = (L.callers c).allowed; knows = knows' })
+        announced' told' pending' (record { guards = (L.callers c).guards; own_groups = groups'; allowed = (L.callers c).allowed; knows = knows' })
 
   link_single : (x : Item) (p : Place) (l : LinkWord) → s.memory.link p.row ≡ l → AtPoint z (world s L.ghost) c (s.callers c) (point.Enqueue x (enq.LinkSingle p)) → Lawful z (step_with z s c (point.Enqueue x (enq.LinkSingle p)) (OfLink l))
   link_single x p Nil is f = appended x p f.call.0 f.call.1.0 (third f.call) (fourth f.call) f.here.0 f.here.1.0 is

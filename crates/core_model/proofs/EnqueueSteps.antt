@@ -1,20 +1,21 @@
 -- Each step of an enqueue keeps the lane lawful.
-use Rattle.std.proofs.Common.{◌≡◌, inl, ℕ, suc, ◌+◌, ◌<◌, ◌≤◌, false, [], length, sym, refl, ap, ◌∙◌, arith, le_refl, Some, None, ◌∷◌, Bool, true, cond, subst}
+use Rattle.std.proofs.Common.{◌≡◌, inl, ℕ, suc, ◌+◌, ◌<◌, ◌≤◌, false, [], length, sym, refl, ap, ◌∙◌, arith, le_refl, Some, None, Bool, true, cond, subst}
 use Rattle.std.proofs.lemmas.List.{append-nil}
 use Rattle.bq_model.specs.declared.op.Op.TheVariants.{Enq}
+use Rattle.core_model.specs.declared.point.Closing.TheVariants.{Plain}
 use Rattle.core_model.specs.declared.point.Item.{Item}
 use Rattle.core_model.specs.Functions.{put}
 use Rattle.core_model.specs.LaneSizes.{LaneSizes}
 use Rattle.core_model.specs.State.{Memory, Caller, State, link_in}
 use Rattle.core_model.specs.Fact.{owns, is_op, linearized_is}
-use Rattle.core_model.specs.Step.{stepped, step_at, step_with, ended}
+use Rattle.core_model.specs.Step.{stepped, step_at, step_with, closes}
 use Rattle.core_model.specs.Facts.{Owns, Holds, AtPoint, NotToCome}
 use Rattle.core_model.specs.Ghost.{Ghost, World, positions}
 use Rattle.core_model.specs.Lawful.{Lawful}
 use Rattle.core_model.proofs.Puts.{put_here, put_else, run_same}
 use Rattle.core_model.proofs.Stable.{unused_stable}
 use Rattle.core_model.proofs.Rely.{third, world, anns_same, Rely}
-use Rattle.core_model.proofs.Preserves.{kept_stepped, known, preserves, changed, drafts_same, told_on, waits_on, waits_there, stutters, point_changes, finishes}
+use Rattle.core_model.proofs.Preserves.{kept_stepped, known, preserves, changed, drafts_same, told_on, waits_on, waits_there, stutters, point_changes, closed}
 use Rattle.core_model.proofs.Announces.{told_same, pending_same, rows_within}
 use Rattle.core_model.specs.Batches.{owner_of}
 use Rattle.word_rows.specs.declared.place.Place.{Place}
@@ -30,7 +31,7 @@ use Rattle.core_model.specs.Help.{help_of}
 use Rattle.bq_model.specs.declared.op.Answer.TheVariants.{Done}
 use Rattle.core_model.specs.declared.point.EnqueuePoint.{EnqueuePoint}
 use Rattle.core_model.proofs.Tails.{exchanges, with_memory}
-use Rattle.core_model.proofs.Lookups.{on_list, next_found, finds}
+use Rattle.core_model.proofs.Lookups.{on_list, next_found}
 use Rattle.core_model.proofs.EnqueueLink.{preserves_link_single}
 use Rattle.bq_model.specs.declared.shape.Shape.{Shape}
 use Rattle.word_rows.specs.declared.content.Content.{Content}
@@ -84,6 +85,7 @@ module _ (z : LaneSizes) (s : State) (L : Lawful z s) (c : ℕ) (x : Item) (off 
     value_own = λ r _ apart. put_else s.memory.value x.row x.value r apart;
     value_path = on_path;
     anns = anns_same z (world s G) W refl refl refl refl refl refl refl;
+    holds = λ _ _ e. inl e;
     more = ([], sym (append-nil s.history));
   }
 
@@ -92,7 +94,7 @@ module _ (z : LaneSizes) (s : State) (L : Lawful z s) (c : ℕ) (x : Item) (off 
 
   pub value_stored : Lawful z (changed s c memory' s.history k')
   value_stored = preserves z s L c memory' s.history G k' (λ r. r ≡ x.row) (λ r e. ap z.home e ∙ own.0.at_home) rely
-      (λ d _. record { linearized = refl; made = refl; drafts = drafts_same z (world s G) W refl refl refl d; unmade = (L.callers d).unmade })
+      (λ d _. record { linearized = refl; made = refl; drafts = drafts_same z (world s G) W refl refl refl d; hazard = refl; held = refl })
       (L.history)
       ((L.queue ∙ run_same (λ i. s.memory.value (G.path i)) (λ i. value' (G.path i)) (suc (G.head + G.shown)) G.queued (λ j from below. let fits = L.list.head.fits in sym (on_path j (omega arith) (omega arith)))))
       (record { rows = L.list.rows; item_rows = L.list.item_rows; head = L.list.head; tail = L.list.tail; counts = L.list.counts; links = L.list.links })
@@ -102,7 +104,7 @@ module _ (z : LaneSizes) (s : State) (L : Lawful z s) (c : ℕ) (x : Item) (off 
       (waits_on z s L c memory' G (point.Enqueue x enq.LoadTail) (λ a waits. let p = L.pending a waits in pending_same z s.memory.link s.memory.link s.memory.value value' G.spot G.spot G.chain (G.linearized (owner_of z a)) (G.linearized (owner_of z a)) (s.memory.notice a) (owner_of z a) (s.callers (owner_of z a))
       (λ _ _. refl) (λ i below. put_else s.memory.value x.row x.value (G.chain i) (λ e. off.1 a (waits_there z s L c a waits) (sym (p.homes i below) ∙ (ap z.home e ∙ own.0.at_home)))) p.unlinked refl p))
       (record {
-        unmade = (L.callers c).unmade;
+        guards = (L.callers c).guards;
         own_groups = (L.callers c).own_groups;
         allowed = (L.callers c).allowed;
         knows = let f = (L.callers c).knows in record {
@@ -134,7 +136,7 @@ module _ (z : LaneSizes) (s : State) (L : Lawful z s) (c : ℕ) where
 
   enq_head : (x : Item) (h : HeadWord) → s.memory.head ≡ h → AtPoint z (world s L.ghost) c (s.callers c) (point.Enqueue x enq.LoadHead) → Lawful z (step_with z s c (point.Enqueue x enq.LoadHead) (OfHead h))
   enq_head x (Node p) is f = stutters z s L c (point.Enqueue x enq.LoadTail) Head (OfHead (Node p)) (ap OfHead is) f
-  enq_head x (Ann a n) is f = stutters z s L c (point.Help (help_of a (back.Enqueue x)) help.LoadOldHead) Head (OfHead (Ann a n)) (ap OfHead is) (record { call = (finds z s L c a n is (back.Enqueue x), f.call); here = tt })
+  enq_head x (Ann a n) is f = stutters z s L c (point.Help (help_of a n (back.Enqueue x)) help.StoreHazard) Head (OfHead (Ann a n)) (ap OfHead is) (record { call = ((λ own. absurd own), f.call); here = tt })
 
   preserves_enq_head : (x : Item) → (s.callers c).point ≡ point.Enqueue x enq.LoadHead → Lawful z (step_at z s c (point.Enqueue x enq.LoadHead))
   preserves_enq_head x is = enq_head x s.memory.head refl (known z s L c (point.Enqueue x enq.LoadHead) is)
@@ -145,8 +147,8 @@ module _ (z : LaneSizes) (s : State) (L : Lawful z s) (c : ℕ) where
 
   -- the enqueue is done, as the history was
   preserves_enq_last : (x : Item) (p : Place) (n : ℕ) → (s.callers c).point ≡ point.Enqueue x (enq.MoveTail p n) → Lawful z (step_at z s c (point.Enqueue x (enq.MoveTail p n)))
-  preserves_enq_last x p n is = let f = known z s L c (point.Enqueue x (enq.MoveTail p n)) is in exchanges z s L c p n (ended (length s.history) c (s.callers c) (Done ∷ [])) f.here.0 f.here.1.0
-      (λ memory l. let h = known z (with_memory z s L c memory) l c (point.Enqueue x (enq.MoveTail p n)) is in let a = h.call.1.0 in finishes z (with_memory z s L c memory) l c (Done ∷ []) h.call.0.0 h.call.0.1 a.0 a.1) (same_place s.memory.tail p) refl
+  preserves_enq_last x p n is = let f = known z s L c (point.Enqueue x (enq.MoveTail p n)) is in exchanges z s L c p n (closes (length s.history) c (s.callers c) (s.callers c).hold (Plain Done)) f.here.0 f.here.1.0
+      (λ memory l. let h = known z (with_memory z s L c memory) l c (point.Enqueue x (enq.MoveTail p n)) is in closed z s c memory s.history (s.callers c) (Plain Done) (point_changes z (with_memory z s L c memory) l c (point.Clear (Plain Done)) (record { call = (h.call.0, tt); here = (h.call.1.0, tt) }))) (same_place s.memory.tail p) refl
 
   -- each step of an enqueue
   pub preserves_enqueue : (x : Item) (p : EnqueuePoint) → (s.callers c).point ≡ point.Enqueue x p → Lawful z (step_at z s c (point.Enqueue x p))
@@ -168,7 +170,7 @@ module _ (s : Shape) where
 
   head_fits : (i : Item) (x : HeadWord) → ItemFits s i → MayHold s Head (OfHead x) → PointFits s (enqueue.after_head i x)
   head_fits i (Node p) a m = (a, tt)
-  head_fits i (Ann n k) a m = (fresh_help s n (back.Enqueue i) m.1.0 a, tt)
+  head_fits i (Ann n k) a m = (fresh_help s n k (back.Enqueue i) m.1.0 m.1.1 a, tt)
 
   linked_fits : (b : Bool) (i : Item) (p : Place) → ItemFits s i → PlaceFits (limits_of s) p → enqueue.fits s (cond b (enq.MoveTail p i.row) enq.LoadTail)
   linked_fits true i p a b = (b, a.row)

@@ -1,5 +1,5 @@
 -- What all calls need to go on with what fits.
-use Rattle.std.proofs.Common.{ℕ, ◌<◌, Bool, true, false, cond, arith}
+use Rattle.std.proofs.Common.{ℕ, ◌<◌, Bool, true, false, cond, arith, ◌^◌}
 use Rattle.bq_model.specs.declared.shape.Shape.{Shape}
 use Rattle.word_rows.specs.Fits.{limits_of, PlaceFits}
 use Rattle.word_rows.specs.Sizes.{rows_of, anns_of}
@@ -17,8 +17,8 @@ module _ (s : Shape) where
   pub no_place : PlaceFits (limits_of s) (record { row = 0; count = 0 })
   no_place = (no_row, (omega arith))
 
-  pub fresh_help : (a : ℕ) (b : Back) → a < anns_of s → BackFits s b → HelpFits s (help_of a b)
-  fresh_help a b at fits = record { ann = at; old_head = no_place; first = no_row; last = no_row; counts = ((omega arith), (omega arith), (omega arith)); goes_back = fits }
+  pub fresh_help : (a n : ℕ) (b : Back) → a < anns_of s → n < 2 ^ 44 → BackFits s b → HelpFits s (help_of a n b)
+  fresh_help a n b at below fits = record { ann = at; old_head = (no_row, below); first = no_row; last = no_row; counts = ((omega arith), (omega arith), (omega arith)); goes_back = fits }
 
   pub course_either : (b : Bool) (x : Course) (y : Course) → CourseFits s x → CourseFits s y → CourseFits s (cond b x y)
   course_either true x y a b = a

@@ -1,6 +1,5 @@
 -- HEAD moves over rows as a command of dequeues ends, or the command finds the queue empty.
-use Rattle.std.proofs.Common.{◌≡◌, ℕ, suc, ◌+◌, ◌*◌, ◌<◌, ◌≤◌, false, List, [], ◌∷◌, ◌++◌, length, sym, refl, ap, ◌∙◌, arith, le_refl, length-append, Some, None, IsSome, ◌≢◌, ◌-◌}
-use Rattle.bq_model.specs.declared.op.Answer.{Answer}
+use Rattle.std.proofs.Common.{◌≡◌, ℕ, suc, ◌+◌, ◌*◌, ◌<◌, ◌≤◌, false, [], ◌∷◌, ◌++◌, length, sym, refl, ap, ◌∙◌, arith, le_refl, Some, None, ◌≢◌, ◌-◌, inl, true}
 use Rattle.bq_model.specs.declared.group.Group.{Group}
 use Rattle.bq_model.specs.Replay.{answers_from, queue_from}
 use Rattle.bq_model.specs.History.{last_queue}
@@ -8,23 +7,25 @@ use Rattle.bq_model.proofs.Histories.{last_queue-push}
 use Rattle.word_rows.specs.declared.place.Place.{Place}
 use Rattle.word_rows.specs.declared.head_word.HeadWord.TheVariants.{Node}
 use Rattle.word_rows.specs.declared.link_word.LinkWord.TheVariants.{Nil}
-use Rattle.core_model.specs.Functions.{run}
+use Rattle.core_model.specs.Functions.{run, put}
 use Rattle.core_model.specs.LaneSizes.{LaneSizes}
 use Rattle.core_model.specs.State.{Memory, Caller, State, own_group}
 use Rattle.core_model.specs.Act.{far_behind}
 use Rattle.core_model.specs.Fact.{linearized_is, linked, head_seen}
-use Rattle.core_model.specs.Step.{ended}
-use Rattle.core_model.specs.Facts.{Holds, Knows}
+use Rattle.core_model.specs.Step.{closes, stepped, closing_answers}
+use Rattle.core_model.specs.Facts.{Holds}
 use Rattle.core_model.specs.Ghost.{at, Ghost, World}
-use Rattle.core_model.specs.Kept.{Kept}
 use Rattle.core_model.specs.Lawful.{shown_queue, head_word, Listed, ItemRows, Headed, Tailed, Announced, Lawful}
 use Rattle.core_model.proofs.Groups.{mine-push_other, length-operations-push}
-use Rattle.core_model.proofs.Stable.{unused_stable}
 use Rattle.core_model.proofs.Rely.{world, some_none, anns_moved, Rely}
-use Rattle.core_model.proofs.Preserves.{preserves, changed, rely_history, drafts_same, told_plain, waits_plain, waits_there, allowed_end}
-use Rattle.core_model.proofs.Joins.{joins_proper, ends_groups, ends_kept}
-use Rattle.core_model.proofs.Announces.{stages_moved}
+use Rattle.core_model.proofs.Preserves.{preserves, changed, rely_history, drafts_same, told_plain, waits_plain, waits_there, closed}
+use Rattle.core_model.proofs.Joins.{joins_proper, closing_groups, closing_knows}
+use Rattle.core_model.proofs.Announces.{stages_moved, pending_same}
 use Rattle.core_model.proofs.Lookups.{is_last, node_found}
+use Rattle.core_model.specs.declared.point.Closing.{Closing}
+use Rattle.core_model.specs.declared.point.Point.TheVariants as point
+use Rattle.core_model.proofs.Puts.{put_else}
+use Rattle.core_model.specs.Batches.{owner_of}
 
 module _ (z : LaneSizes) (s : State) (L : Lawful z s) (c : ℕ) where
   abbrev G : Ghost
@@ -33,23 +34,12 @@ module _ (z : LaneSizes) (s : State) (L : Lawful z s) (c : ℕ) where
   abbrev own : Group
   own = own_group c (s.callers c)
 
-  abbrev pub last : List Answer → Caller
-  last xs = ended (length (s.history ++ own_group c (s.callers c) ∷ [])) c (s.callers c) xs
+  -- the command ends by this step
+  abbrev pub last : Closing → Caller
+  last x = closes (length (s.history ++ own_group c (s.callers c) ∷ [])) c (s.callers c) (s.callers c).hold x
 
-  -- what the caller of dequeues knows as they end
-  rest_facts : (w : World) (xs : List Answer) → (rely : Rely z (λ _. ⊥) (world s L.ghost) w) → Holds z w c (linearized_is false) → (s.callers c).started_at ≤ length w.history
-      → Kept w.history c (last xs) → Knows z w c (last xs)
-  rest_facts w xs rely off since kept = record {
-    unused = unused_stable z (λ _. ⊥) (world s L.ghost) w rely c (s.callers c).taken (s.callers c).stopped (λ _ x. absurd x) (L.callers c).knows.unused;
-    started = since;
-    last = kept;
-    at_point = record { call = (off, tt); here = ((refl, λ _. some), tt) };
-  } where
-    some : IsSome (Some (length (s.history ++ own ∷ [])))
-    some = refl
-
-  since_end : (s.callers c).started_at ≤ length (s.history ++ own_group c (s.callers c) ∷ [])
-  since_end = let from = (L.callers c).knows.started in let total = length-append s.history (own ∷ []) in omega arith
+  abbrev k' : Closing → Caller
+  k' x = stepped (s.callers c) (point.Clear x)
 
   abbrev value_at : ℕ → ℕ
   value_at j = s.memory.value (L.ghost.path j)
@@ -59,8 +49,8 @@ module _ (z : LaneSizes) (s : State) (L : Lawful z s) (c : ℕ) where
   bare_queue no_ann = let b = L.list.head.none no_ann in let fits = L.list.head.fits in L.queue ∙ (λ i. run value_at (suc ((let f : G.head + G.shown ≡ G.head = omega arith in f) i)) ((let f : G.queued ≡ G.rest = omega arith in f) i))
 
   -- HEAD moves from the dummy p over m rows, to the row r, and the command ends with these answers
-  module _ (p : Place) (r m : ℕ) (xs : List Answer) (off : Holds z (world s L.ghost) c (linearized_is false)) (known_caller : c < z.callers) (some : (s.callers c).ops ≢ []) (head : s.memory.head ≡ Node p)
-      (enough : m ≤ L.ghost.rest) (row_is : r ≡ L.ghost.path (L.ghost.head + m)) (past : L.ghost.head + m ≤ L.ghost.tail) (right : xs ≡ answers_from (last_queue s.history) (s.callers c).ops)
+  module _ (p : Place) (r m : ℕ) (x : Closing) (off : Holds z (world s L.ghost) c (linearized_is false)) (known_caller : c < z.callers) (some : (s.callers c).ops ≢ []) (head : s.memory.head ≡ Node p)
+      (enough : m ≤ L.ghost.rest) (row_is : r ≡ L.ghost.path (L.ghost.head + m)) (past : L.ghost.head + m ≤ L.ghost.tail) (right : closing_answers (s.callers c).ops (s.callers c).values x ≡ answers_from (last_queue s.history) (s.callers c).ops)
       (leaves : queue_from (last_queue s.history) (s.callers c).ops ≡ run (λ j. s.memory.value (L.ghost.path j)) (suc L.ghost.head + m) (L.ghost.rest - m)) where
     count_is : p.count ≡ z.first + G.head
     count_is = ap (λ (q : Place). q.count) (node_found z s L c p head).1
@@ -80,7 +70,7 @@ module _ (z : LaneSizes) (s : State) (L : Lawful z s) (c : ℕ) where
     left = L.ghost.rest - m
 
     abbrev G' : Ghost
-    G' = record G { head = G.head + m; rest = left; queued = left }
+    G' = record G { head = G.head + m; rest = left; queued = left; linearized = put G.linearized c true }
 
     abbrev memory' : Memory
     memory' = record s.memory { head = Node (far_behind p r m) }
@@ -104,6 +94,7 @@ module _ (z : LaneSizes) (s : State) (L : Lawful z s) (c : ℕ) where
       value_own = λ _ _ _. refl;
       value_path = λ _ _ _. refl;
       anns = anns_moved z (world s G) W refl refl (λ _ _. refl) (λ _ _ _ e. e) (λ a at. absurd (none_stands a at));
+      holds = λ _ _ e. inl e;
       more = (own ∷ [], refl);
     }
 
@@ -144,8 +135,8 @@ module _ (z : LaneSizes) (s : State) (L : Lawful z s) (c : ℕ) where
         (λ a i f none. absurd (none_stands a (L.announced.unrecorded a i f none).0))
         (λ below is. let x = L.announced.lags (omega arith) is in absurd (none_stands x.0 x.2)) L.announced
 
-    pub head_moved : Lawful z (changed s c memory' (s.history ++ own_group c (s.callers c) ∷ []) (last xs))
-    head_moved = preserves z s L c memory' (s.history ++ own ∷ []) G' (last xs) (λ _. ⊥) (λ _ x. absurd x) rely (λ d apart. record { linearized = refl; made = mine-push_other s.history own d apart; drafts = drafts_same z (world s G) W refl refl refl d; unmade = (L.callers d).unmade })
+    pub head_moved : Lawful z (changed s c memory' (s.history ++ own_group c (s.callers c) ∷ []) (last x))
+    head_moved = closed z s c memory' (s.history ++ own ∷ []) (s.callers c) x (preserves z s L c memory' (s.history ++ own ∷ []) G' (k' x) (λ _. ⊥) (λ _ x. absurd x) rely (λ d apart. record { linearized = put_else G.linearized c true d apart; made = mine-push_other s.history own d apart; drafts = drafts_same z (world s G) W refl refl refl d; hazard = refl; held = refl })
         (joins_proper z s L c off.0 known_caller some) queue'
         (record {
           rows = listed';
@@ -157,34 +148,40 @@ module _ (z : LaneSizes) (s : State) (L : Lawful z s) (c : ℕ) where
         })
         announced' (λ a at. absurd (none_stands a at)) (λ a waits. absurd (none_stands a (L.announced.waits a waits).0))
         (record {
-          unmade = (L.callers c).unmade;
-          own_groups = ends_groups z s L c off.0 xs right;
-          allowed = allowed_end z c (s.callers c) (L.callers c).allowed;
-          knows = rest_facts W xs rely off since_end (ends_kept z s L c off.0 xs right);
-        })
+          guards = (L.callers c).guards;
+          own_groups = closing_groups z s L c off.0 x right;
+          allowed = (L.callers c).allowed;
+          knows = closing_knows z s L c off.0 x right (λ _. ⊥) W rely refl refl off.1 (λ _ bad. absurd bad);
+        }))
 
   -- nothing lies behind the dummy, and no announcement stands
   pub none_queued : (p : Place) → Holds z (world s L.ghost) c (linked p) → Holds z (world s L.ghost) c (head_seen p) → s.memory.link p.row ≡ Nil → last_queue s.history ≡ []
   none_queued p on seen nil = let end = is_last z s L c p on nil in let seen' = seen in let count = on.count in let fits = L.list.head.fits in L.queue ∙ ap (run value_at (suc (G.head + G.shown))) (let e : G.queued ≡ 0 = omega arith in e)
 
   -- the command takes effect and ends, and leaves the queue as it is
-  module _ (xs : List Answer) (off : Holds z (world s L.ghost) c (linearized_is false)) (known_caller : c < z.callers) (some : (s.callers c).ops ≢ [])
-      (right : xs ≡ answers_from (last_queue s.history) (s.callers c).ops) (leaves : queue_from (last_queue s.history) (s.callers c).ops ≡ last_queue s.history) where
+  module _ (x : Closing) (off : Holds z (world s L.ghost) c (linearized_is false)) (known_caller : c < z.callers) (some : (s.callers c).ops ≢ [])
+      (right : closing_answers (s.callers c).ops (s.callers c).values x ≡ answers_from (last_queue s.history) (s.callers c).ops) (leaves : queue_from (last_queue s.history) (s.callers c).ops ≡ last_queue s.history) where
+    abbrev H : Ghost
+    H = record L.ghost { linearized = put L.ghost.linearized c true }
+
     abbrev E : World
-    E = record { memory = s.memory; history = s.history ++ own ∷ []; ghost = L.ghost }
+    E = record { memory = s.memory; history = s.history ++ own ∷ []; ghost = H }
 
     on_empty : Rely z (λ _. ⊥) (world s L.ghost) E
-    on_empty = rely_history z s G G.linearized (s.history ++ own ∷ []) (own ∷ [], refl)
+    on_empty = rely_history z s G (put G.linearized c true) (s.history ++ own ∷ []) (own ∷ [], refl)
 
-    pub found_empty : Lawful z (changed s c s.memory (s.history ++ own_group c (s.callers c) ∷ []) (last xs))
-    found_empty = preserves z s L c s.memory (s.history ++ own ∷ []) G (last xs) (λ _. ⊥) (λ _ x. absurd x) on_empty
-        (λ d apart. record { linearized = refl; made = mine-push_other s.history own d apart; drafts = drafts_same z (world s G) E refl refl refl d; unmade = (L.callers d).unmade })
+    pub found_empty : Lawful z (changed s c s.memory (s.history ++ own_group c (s.callers c) ∷ []) (last x))
+    found_empty = closed z s c s.memory (s.history ++ own ∷ []) (s.callers c) x (preserves z s L c s.memory (s.history ++ own ∷ []) H (k' x) (λ _. ⊥) (λ _ x. absurd x) on_empty
+        (λ d apart. record { linearized = put_else G.linearized c true d apart; made = mine-push_other s.history own d apart; drafts = drafts_same z (world s G) E refl refl refl d; hazard = refl; held = refl })
         (joins_proper z s L c off.0 known_caller some) (last_queue-push s.history own ∙ (leaves ∙ L.queue))
         (record { rows = L.list.rows; item_rows = L.list.item_rows; head = L.list.head; tail = L.list.tail; counts = let more = length-operations-push s.history own in let was = L.list.counts in omega arith; links = L.list.links })
-        L.announced (told_plain z s L c s.memory G (last xs) off.1 L.told) (waits_plain z s L c s.memory G (last xs) off.1 (waits_there z s L c) L.pending)
+        L.announced (told_plain z s L c s.memory H (k' x) off.1 L.told)
+        (waits_plain z s L c s.memory H (k' x) off.1 (waits_there z s L c) (λ a waits. let p = L.pending a waits in
+        pending_same z s.memory.link s.memory.link s.memory.value s.memory.value G.spot G.spot G.chain (G.linearized (owner_of z a)) (put G.linearized c true (owner_of z a)) (s.memory.notice a) (owner_of z a) (s.callers (owner_of z a))
+        (λ _ _. refl) (λ _ _. refl) p.unlinked (put_else G.linearized c true (owner_of z a) (off.1 a (waits_there z s L c a waits))) p))
         (record {
-          unmade = (L.callers c).unmade;
-          own_groups = ends_groups z s L c off.0 xs right;
-          allowed = allowed_end z c (s.callers c) (L.callers c).allowed;
-          knows = rest_facts E xs on_empty off since_end (ends_kept z s L c off.0 xs right);
-        })
+          guards = (L.callers c).guards;
+          own_groups = closing_groups z s L c off.0 x right;
+          allowed = (L.callers c).allowed;
+          knows = closing_knows z s L c off.0 x right (λ _. ⊥) E on_empty refl refl off.1 (λ _ bad. absurd bad);
+        }))

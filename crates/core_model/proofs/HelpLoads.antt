@@ -1,5 +1,5 @@
 -- A helper reads the announcement and TAIL, moves TAIL by one row, and records the old tail.
-use Rattle.std.proofs.Common.{◌≡◌, ◌≢◌, ℕ, suc, ◌+◌, ◌<◌, ◌≤◌, eqb, Bool, true, false, cond, [], sym, refl, ap, ◌∙◌, arith, le_refl, Option, Some, None, leb, ◌&&◌, eqb-true}
+use Rattle.std.proofs.Common.{◌≡◌, ◌≢◌, ℕ, suc, ◌+◌, ◌<◌, ◌≤◌, eqb, Bool, true, false, cond, [], sym, refl, ap, ◌∙◌, arith, le_refl, Option, Some, None, leb, ◌&&◌, eqb-true, inl}
 use Rattle.std.proofs.lemmas.List.{append-nil}
 use Rattle.std.proofs.lemmas.Bool.{eqb-true, leb-true, leb-false, eqb-false}
 use Rattle.word_rows.specs.declared.place.Place.{Place}
@@ -45,22 +45,22 @@ module _ (z : LaneSizes) (s : State) (L : Lawful z s) (c : ℕ) where
   pub preserves_help_old_head : (h : Help) → (s.callers c).point ≡ point.Help h help.LoadOldHead → Lawful z (step_at z s c (point.Help h help.LoadOldHead))
   preserves_help_old_head h is = let f = known z s L c (point.Help h help.LoadOldHead) is in let r = f.call.0 in
       stutters z s L c (point.Help (record h { old_head = (s.memory.notice h.ann).old_head }) help.LoadFirst) (AnnWord h.ann field.OldHead) (OfHead (Node (s.memory.notice h.ann).old_head)) refl
-      (record { call = (record { installed = r.installed; inside = r.inside; old_head = λ _. refl; first = λ l. absurd (omega arith); last = λ l. absurd (omega arith); counts = λ l. absurd (omega arith) }, f.call.1); here = tt })
+      (record { call = (record { installed = r.installed; kept = r.kept; inside = r.inside; old_head = λ _. refl; first = λ l. absurd (omega arith); last = λ l. absurd (omega arith); counts = λ l. absurd (omega arith) }, f.call.1); here = tt })
 
   pub preserves_help_first : (h : Help) → (s.callers c).point ≡ point.Help h help.LoadFirst → Lawful z (step_at z s c (point.Help h help.LoadFirst))
   preserves_help_first h is = let f = known z s L c (point.Help h help.LoadFirst) is in let r = f.call.0 in
       stutters z s L c (point.Help (record h { first = (s.memory.notice h.ann).first }) help.LoadLast) (AnnWord h.ann field.First) (OfChainEnd (s.memory.notice h.ann).first) refl
-      (record { call = (record { installed = r.installed; inside = r.inside; old_head = λ _. r.old_head (omega arith); first = λ _. refl; last = λ l. absurd (omega arith); counts = λ l. absurd (omega arith) }, f.call.1); here = tt })
+      (record { call = (record { installed = r.installed; kept = r.kept; inside = r.inside; old_head = λ _. r.old_head (omega arith); first = λ _. refl; last = λ l. absurd (omega arith); counts = λ l. absurd (omega arith) }, f.call.1); here = tt })
 
   pub preserves_help_last : (h : Help) → (s.callers c).point ≡ point.Help h help.LoadLast → Lawful z (step_at z s c (point.Help h help.LoadLast))
   preserves_help_last h is = let f = known z s L c (point.Help h help.LoadLast) is in let r = f.call.0 in
       stutters z s L c (point.Help (record h { last = (s.memory.notice h.ann).last }) help.LoadCounts) (AnnWord h.ann field.Last) (OfChainEnd (s.memory.notice h.ann).last) refl
-      (record { call = (record { installed = r.installed; inside = r.inside; old_head = λ _. r.old_head (omega arith); first = λ _. r.first (omega arith); last = λ _. refl; counts = λ l. absurd (omega arith) }, f.call.1); here = tt })
+      (record { call = (record { installed = r.installed; kept = r.kept; inside = r.inside; old_head = λ _. r.old_head (omega arith); first = λ _. r.first (omega arith); last = λ _. refl; counts = λ l. absurd (omega arith) }, f.call.1); here = tt })
 
   pub preserves_help_counts : (h : Help) → (s.callers c).point ≡ point.Help h help.LoadCounts → Lawful z (step_at z s c (point.Help h help.LoadCounts))
   preserves_help_counts h is = let f = known z s L c (point.Help h help.LoadCounts) is in let r = f.call.0 in
       stutters z s L c (point.Help (record h { counts = (s.memory.notice h.ann).counts }) help.LoadTail) (AnnWord h.ann field.Counts) (OfCounts (s.memory.notice h.ann).counts) refl
-      (record { call = (record { installed = r.installed; inside = r.inside; old_head = λ _. r.old_head (omega arith); first = λ _. r.first (omega arith); last = λ _. r.last (omega arith); counts = λ _. refl }, f.call.1); here = tt })
+      (record { call = (record { installed = r.installed; kept = r.kept; inside = r.inside; old_head = λ _. r.old_head (omega arith); first = λ _. r.first (omega arith); last = λ _. r.last (omega arith); counts = λ _. refl }, f.call.1); here = tt })
 
   pub preserves_help_tail : (h : Help) → (s.callers c).point ≡ point.Help h help.LoadTail → Lawful z (step_at z s c (point.Help h help.LoadTail))
   preserves_help_tail h is = let f = known z s L c (point.Help h help.LoadTail) is in let within = L.list.tail.within in let from = L.list.tail.after_head in let count = ap (λ (p : Place). p.count) L.list.tail.named in
@@ -171,6 +171,7 @@ module _ (z : LaneSizes) (s : State) (L : Lawful z s) (c : ℕ) where
       value_own = λ _ _ _. refl;
       value_path = λ _ _ _. refl;
       anns = anns_moved z (world s G) R refl refl (λ _ _. refl) (λ x q _ is. put_else s.memory.old_tail a (Some p) x (λ e. some_none (sym is ∙ (ap s.memory.old_tail e ∙ none))) ∙ is) (λ x at_head. (at_head, refl, refl));
+      holds = λ _ _ e. inl e;
       more = ([], sym (append-nil s.history));
     }
 
@@ -196,7 +197,7 @@ module _ (z : LaneSizes) (s : State) (L : Lawful z s) (c : ℕ) where
       };
       told = L.told;
       pending = L.pending;
-      callers = λ d. caller_stable z (λ _. ⊥) (world s G) R recording d (s.callers d) (λ _ _ x. x) (record { linearized = refl; made = refl; drafts = λ x _ u. (u, refl, put_else s.memory.old_tail a (Some p) x (apart x u)); unmade = (L.callers d).unmade }) (L.callers d);
+      callers = λ d. caller_stable z (λ _. ⊥) (world s G) R recording d (s.callers d) (λ _ _ x. x) (record { linearized = refl; made = refl; drafts = λ x _ u. (u, refl, put_else s.memory.old_tail a (Some p) x (apart x u)); hazard = refl; held = refl }) (L.callers d);
     }
 
   tail_recorded : (h : Help) (p : Place) (x : Option Place) → s.memory.old_tail h.ann ≡ x → (s.callers c).point ≡ point.Help h (help.RecordTail p) → Lawful z (step_with z s c (point.Help h (help.RecordTail p)) (OfOldTail x))

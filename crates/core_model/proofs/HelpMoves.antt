@@ -1,5 +1,5 @@
 -- A helper moves TAIL over the rows that were linked, walks on, and moves HEAD to the new dummy.
-use Rattle.std.proofs.Common.{◌≡◌, inr, ℕ, suc, ◌+◌, ◌*◌, ◌<◌, ◌≤◌, eqb, Bool, true, false, cond, [], sym, refl, ap, ◌∙◌, subst, arith, le_refl, eq-eqb, Some, None}
+use Rattle.std.proofs.Common.{◌≡◌, inr, ℕ, suc, ◌+◌, ◌*◌, ◌<◌, ◌≤◌, eqb, Bool, true, false, cond, [], sym, refl, ap, ◌∙◌, subst, arith, le_refl, eq-eqb, Some, None, inl}
 use Rattle.std.proofs.lemmas.List.{append-nil}
 use Rattle.std.proofs.lemmas.Bool.{eqb-true, and_from, and_parts}
 use Rattle.word_rows.specs.declared.place.Place.{Place}
@@ -23,7 +23,8 @@ use Rattle.core_model.specs.Facts.{Holds, AtPoint}
 use Rattle.core_model.specs.Ghost.{waiting, decided, Ghost, World, joint, at}
 use Rattle.core_model.specs.Lawful.{head_word, LinksIn, Bound, Announced, Lawful}
 use Rattle.core_model.proofs.Rely.{third, world, waits_decides, one_position, one_some, some_none, anns_same, anns_moved, Rely}
-use Rattle.core_model.proofs.Preserves.{caller_stable, known, stutters, point_changes, changed, same_places, drafts_same}
+use Rattle.core_model.proofs.Preserves.{caller_stable, known, stutters, point_changes, changed, drafts_same}
+use Rattle.core_model.proofs.StoredAgain.{same_places}
 use Rattle.core_model.proofs.Announces.{stages_moved}
 use Rattle.core_model.proofs.Lookups.{ann_stands, not_ann}
 use Rattle.core_model.specs.Stopper.{linked_rows}
@@ -101,6 +102,7 @@ module _ (z : LaneSizes) (s : State) (L : Lawful z s) (c : ℕ) where
       value_own = λ _ _ _. refl;
       value_path = λ _ _ _. refl;
       anns = anns_same z (world s L.ghost) W refl refl refl refl refl refl refl;
+      holds = λ _ _ e. inl e;
       more = ([], sym (append-nil s.history));
     }
 
@@ -130,7 +132,7 @@ module _ (z : LaneSizes) (s : State) (L : Lawful z s) (c : ℕ) where
           (λ below _. absurd (omega arith)) L.announced;
       told = L.told;
       pending = L.pending;
-      callers = λ d. caller_stable z (λ _. ⊥) (world s L.ghost) W rely d (s.callers d) (λ _ _ x. x) (record { linearized = refl; made = refl; drafts = drafts_same z (world s L.ghost) W refl refl refl d; unmade = (L.callers d).unmade }) (L.callers d);
+      callers = λ d. caller_stable z (λ _. ⊥) (world s L.ghost) W rely d (s.callers d) (λ _ _ x. x) (record { linearized = refl; made = refl; drafts = drafts_same z (world s L.ghost) W refl refl refl d; hazard = refl; held = refl }) (L.callers d);
     }
 
   over_moved : (h : Help) (q : Place) (b : Bool) → same_place s.memory.tail q ≡ b → (s.callers c).point ≡ point.Help h (help.MoveTailOver q)
@@ -228,6 +230,7 @@ module _ (z : LaneSizes) (s : State) (L : Lawful z s) (c : ℕ) where
       value_own = λ _ _ _. refl;
       value_path = λ _ _ _. refl;
       anns = anns_moved z (world s L.ghost) V refl refl (λ _ _. refl) (λ _ _ _ e. e) (λ x none. absurd (some_none (sym none)));
+      holds = λ _ _ e. inl e;
       more = ([], sym (append-nil s.history));
     }
 
@@ -273,11 +276,11 @@ module _ (z : LaneSizes) (s : State) (L : Lawful z s) (c : ℕ) where
       announced = announced';
       told = λ x none. absurd (some_none (sym none));
       pending = λ x waits. absurd (none_waits x waits);
-      callers = λ d. caller_stable z (λ _. ⊥) (world s L.ghost) V moving d (s.callers d) (λ _ _ x. x) (record { linearized = refl; made = refl; drafts = drafts_same z (world s L.ghost) V refl refl refl d; unmade = (L.callers d).unmade }) (L.callers d);
+      callers = λ d. caller_stable z (λ _. ⊥) (world s L.ghost) V moving d (s.callers d) (λ _ _ x. x) (record { linearized = refl; made = refl; drafts = drafts_same z (world s L.ghost) V refl refl refl d; hazard = refl; held = refl }) (L.callers d);
     }
 
   -- HEAD has another word than the announcement's, so that doesn't stand
-  not_there : (h : Help) (x : HeadWord) → s.memory.head ≡ x → is_ann x h.ann h.old_head.count ≡ false → (s.memory.notice h.ann).old_head ≡ h.old_head → L.ghost.ann ≡ Some h.ann → ⊥
+  pub not_there : (h : Help) (x : HeadWord) → s.memory.head ≡ x → is_ann x h.ann h.old_head.count ≡ false → (s.memory.notice h.ann).old_head ≡ h.old_head → L.ghost.ann ≡ Some h.ann → ⊥
   not_there h x at_x apart old at_head = differ (sym (ap (λ (y : HeadWord). is_ann y h.ann h.old_head.count) (sym at_x ∙ (L.list.head.named ∙ ap (head_word z.first L.ghost.path L.ghost.head) at_head)) ∙
       and_from (eqb h.ann h.ann) (eqb (z.first + L.ghost.head) h.old_head.count) (eq-eqb h.ann h.ann refl) (eq-eqb (z.first + L.ghost.head) h.old_head.count (ap (λ (p : Place). p.count) (sym (L.announced.old_head h.ann at_head) ∙ old)))) ∙ apart)
 

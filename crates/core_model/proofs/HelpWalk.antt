@@ -20,7 +20,7 @@ use Rattle.core_model.specs.Step.{stepped}
 use Rattle.core_model.specs.Facts.{Holds, Each, AtPoint}
 use Rattle.core_model.specs.Ghost.{decided, Ghost, at}
 use Rattle.core_model.specs.Lawful.{Bound, Lawful}
-use Rattle.core_model.proofs.Rely.{world, fourth}
+use Rattle.core_model.proofs.Rely.{world, fourth, true_false}
 use Rattle.core_model.specs.Stopper.{is_stopped, linked_rows, passes}
 
 pub differ : true ≡ false → ⊥
@@ -48,10 +48,10 @@ module _ (z : LaneSizes) (s : State) (L : Lawful z s) (c : ℕ) where
   -- and after the help, where the announcement has left HEAD
   pub goes_back : (h : Help) (b : Back) → (L.ghost.ann ≡ Some h.ann → ⊥) → Holds z (world s L.ghost) c (reads 4 h) → Holds z (world s L.ghost) c (tail_over h.ann) → Each z (world s L.ghost) c (back_facts c (command (s.callers c)) h.ann b)
       → AtPoint z (world s L.ghost) c (stepped (s.callers c) (back_point h b)) (back_point h b)
-  goes_back h back.Own gone reading t rest = record { call = (((rest.0.stands t.position t.is_decided).0, λ x at_x own. gone (at_x ∙ ap Some (rest.0.only x at_x own))), tt); here = (reading, (t, rest)) }
+  goes_back h back.Own gone reading t rest = record { call = (((rest.0.stands t.position t.is_decided).0, (λ x at_x own. gone (at_x ∙ ap Some (rest.0.only x at_x own))), λ no. absurd (true_false no)), tt); here = (reading, (t, rest)) }
   goes_back h (back.Enqueue x) gone reading t rest = record { call = rest; here = tt }
   goes_back h back.Dequeue gone reading t rest = record { call = rest; here = tt }
-  goes_back h (back.Batch d) gone reading t rest = record { call = (rest.0, (rest.1.0, tt)); here = rest.1.1 }
+  goes_back h (back.Batch d) gone reading t rest = record { call = (rest.0, (rest.1.0, (rest.1.1.0, tt))); here = rest.1.1.1 }
   goes_back h (back.Many d) gone reading t rest = record { call = (rest.1.0, (rest.1.1.0, (rest.1.1.1.0, (rest.0, tt)))); here = (fourth rest.1, tt) }
 
   -- the walk begins

@@ -1,8 +1,7 @@
--- A command takes effect: its group joins the history, which stays proper.
-use Rattle.std.proofs.Common.{◌≡◌, ◌≢◌, ℕ, suc, ◌+◌, ◌<◌, ◌≤◌, Bool, false, cond, List, [], ◌∷◌, ◌++◌, length, sym, refl, ap, ◌∙◌, arith, length-append, Some}
+-- A command takes effect: its group joins the history, which stays proper; and it may end by that.
+use Rattle.std.proofs.Common.{◌≡◌, ◌≢◌, ℕ, suc, ◌+◌, ◌<◌, ◌≤◌, Bool, false, cond, List, [], ◌∷◌, ◌++◌, length, sym, ap, ◌∙◌, arith, length-append, Some, true, subst}
 use Rattle.std.proofs.lemmas.List.{append-nil}
 use Rattle.bq_model.specs.declared.op.Op.{Op}
-use Rattle.bq_model.specs.declared.op.Answer.{Answer}
 use Rattle.bq_model.specs.declared.group.Group.{Group}
 use Rattle.bq_model.specs.Replay.{answers_from}
 use Rattle.bq_model.specs.History.{operations, last_queue}
@@ -11,12 +10,19 @@ use Rattle.bq_model.specs.Proper.{IsProper}
 use Rattle.core_model.specs.LaneSizes.{LaneSizes}
 use Rattle.core_model.specs.State.{Caller, State, own_group}
 use Rattle.core_model.specs.Fact.{is_op}
-use Rattle.core_model.specs.Step.{ended}
-use Rattle.core_model.specs.Facts.{Holds}
-use Rattle.core_model.specs.Kept.{Kept}
+use Rattle.core_model.specs.Step.{closing_answers, stepped}
+use Rattle.core_model.specs.Facts.{Holds, NotToCome, Knows}
 use Rattle.core_model.specs.Lawful.{OwnGroups, Lawful}
 use Rattle.core_model.proofs.Groups.{mine-push_own, length-operations-push, proper-push}
-use Rattle.core_model.proofs.Rely.{world}
+use Rattle.core_model.proofs.Rely.{world, Rely, true_false}
+use Rattle.core_model.specs.declared.point.Closing.{Closing}
+use Rattle.core_model.specs.Functions.{put}
+use Rattle.core_model.specs.Ghost.{World}
+use Rattle.core_model.specs.Batches.{owner_of}
+use Rattle.core_model.specs.declared.point.Point.TheVariants as point
+use Rattle.core_model.proofs.Puts.{put_here}
+use Rattle.core_model.proofs.Stable.{unused_stable, kept_stable}
+use Rattle.core_model.proofs.Preserves.{kept_stepped}
 
 module _ (z : LaneSizes) (s : State) (L : Lawful z s) (c : ℕ) where
   abbrev me : Caller
@@ -36,27 +42,26 @@ module _ (z : LaneSizes) (s : State) (L : Lawful z s) (c : ℕ) where
     pub joins_mine : mine (s.history ++ own_group c (s.callers c) ∷ []) c ≡ (s.callers c).mine ++ own_group c (s.callers c) ∷ []
     joins_mine = mine-push_own s.history own ∙ ap (λ (gs : List Group). gs ++ own ∷ []) own_mine
 
-  -- where its caller makes the step, and the command ends with it, with these answers
-  module _ (off : L.ghost.linearized c ≡ false) (xs : List Answer) (right : xs ≡ answers_from (last_queue s.history) (s.callers c).ops) where
-    abbrev last : Caller
-    last = ended (length (s.history ++ own_group c (s.callers c) ∷ [])) c (s.callers c) xs
+  -- where its caller makes the step, and the command ends by that, with these answers
+  module _ (off : L.ghost.linearized c ≡ false) (x : Closing) (right : closing_answers (s.callers c).ops (s.callers c).values x ≡ answers_from (last_queue s.history) (s.callers c).ops) where
+    abbrev after : Caller
+    after = stepped (s.callers c) (point.Clear x)
 
-    pub ends_groups : OwnGroups c (s.history ++ own_group c (s.callers c) ∷ []) last (L.ghost.linearized c)
-    ends_groups = joins_mine off ∙ (sym (append-nil _) ∙ ap (λ (b : Bool). (me.mine ++ own ∷ []) ++ cond b (own_group c last ∷ []) []) (sym off))
+    pub closing_groups : OwnGroups c (s.history ++ own_group c (s.callers c) ∷ []) after (put L.ghost.linearized c true c)
+    closing_groups = joins_mine off ∙ ap (λ (b : Bool). me.mine ++ cond b (own ∷ []) []) (sym (put_here L.ghost.linearized c true))
 
-    pub ends_kept : Kept (s.history ++ own_group c (s.callers c) ∷ []) c last
-    ends_kept = record {
-      none = λ no. absurd (no refl);
-      done = λ _. record {
-        earlier = me.mine;
-        ops = me.ops;
-        last = refl;
-        timely = before_end;
-        stands = record { before = s.history; behind = []; splits = sym (append-nil (s.history ++ own ∷ [])); right = right };
+    -- what it knows then
+    pub closing_knows : (Touch : ℕ → Type 0) (w : World) → Rely z Touch (world s L.ghost) w → w.history ≡ s.history ++ own_group c (s.callers c) ∷ [] → w.ghost.linearized ≡ put L.ghost.linearized c true
+        → ((a : ℕ) → w.ghost.ann ≡ Some a → owner_of z a ≢ c) → ((r : ℕ) → Touch r → NotToCome z c (s.callers c).taken (s.callers c).stopped r) → Knows z w c after
+    closing_knows Touch w rely added on plain apart = record {
+      unused = unused_stable z Touch (world s L.ghost) w rely c me.taken me.stopped apart (L.callers c).knows.unused;
+      started = subst (λ (h : List Group). me.started_at ≤ length h) (sym added) (let from = (L.callers c).knows.started in let total = length-append s.history (own ∷ []) in omega arith);
+      last = kept_stepped w.history c me (point.Clear x) me.values (kept_stable z Touch (world s L.ghost) w rely c me (L.callers c).knows.last);
+      at_point = record {
+        call = ((ap (λ (f : ℕ → Bool). f c) on ∙ put_here L.ghost.linearized c true, plain, λ no. absurd (true_false no)), tt);
+        here = ((record { before = s.history; behind = []; splits = added ∙ sym (append-nil (s.history ++ own ∷ [])); right = right }, (L.callers c).knows.started), tt);
       };
-    } where
-      before_end : (end : ℕ) → Some (length (s.history ++ own ∷ [])) ≡ Some end → (me.started_at ≤ length s.history) × (length s.history < end)
-      before_end end e = let all : length (s.history ++ own ∷ []) ≡ end = cc e in let total = length-append s.history (own ∷ []) in ((L.callers c).knows.started, omega arith)
+    }
 
   -- the same of a single operation
   module _ (op : Op) (off : L.ghost.linearized c ≡ false) (runs : Holds z (world s L.ghost) c (is_op (s.callers c).ops op)) where
@@ -70,10 +75,3 @@ module _ (z : LaneSizes) (s : State) (L : Lawful z s) (c : ℕ) where
 
     pub linearizes_mine : mine (s.history ++ own_group c (s.callers c) ∷ []) c ≡ (s.callers c).mine ++ own_group c (s.callers c) ∷ []
     linearizes_mine = joins_mine off
-
-    -- where the command ends with that step
-    pub linearizes_groups : (xs : List Answer) → xs ≡ answers_from (last_queue s.history) (op ∷ []) → OwnGroups c (s.history ++ own_group c (s.callers c) ∷ []) (ended (length (s.history ++ own_group c (s.callers c) ∷ [])) c (s.callers c) xs) (L.ghost.linearized c)
-    linearizes_groups xs right = ends_groups off xs (right ∙ ap (answers_from (last_queue s.history)) (sym runs.0))
-
-    pub linearizes_kept : (xs : List Answer) → xs ≡ answers_from (last_queue s.history) (op ∷ []) → Kept (s.history ++ own_group c (s.callers c) ∷ []) c (ended (length (s.history ++ own_group c (s.callers c) ∷ [])) c (s.callers c) xs)
-    linearizes_kept xs right = ends_kept off xs (right ∙ ap (answers_from (last_queue s.history)) (sym runs.0))

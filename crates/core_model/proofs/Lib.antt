@@ -5,6 +5,8 @@ pub mod Groups
 pub mod Counts
 pub mod Counting
 pub mod Rely
+pub mod SharedFacts
+pub mod StoredAgain
 pub mod Stable
 pub mod Preserves
 pub mod Joins
@@ -18,7 +20,11 @@ pub mod EnqueueSteps
 pub mod HeadMoves
 pub mod DequeueSteps
 pub mod Opens
+pub mod Stocks
+pub mod FillScans
+pub mod FillRows
 pub mod BatchRows
+pub mod Reuses
 pub mod BatchSteps
 pub mod HelpWalk
 pub mod HelpLoads
@@ -32,11 +38,14 @@ pub mod Decides
 pub mod AnswerSteps
 pub mod ManyMoves
 pub mod ManySteps
+pub mod Holds
 pub mod HelpSteps
 pub mod InRange
 pub mod Steps
 pub mod Shows
 pub mod Alone
+pub mod Holdings
+pub mod HoldSteps
 pub mod Ends
 pub mod FirstPoints
 pub mod Finds
@@ -49,3 +58,4 @@ pub mod CodedSteps
 pub mod CodedStarts
 mod Trace
 mod ManyTrace
+mod HoldTrace

@@ -6,11 +6,9 @@ use Rattle.word_rows.specs.declared.place.Place.{Place}
 use Rattle.word_rows.specs.declared.head_word.HeadWord.{HeadWord}
 use Rattle.word_rows.specs.declared.head_word.HeadWord.TheVariants.{Node, Ann}
 use Rattle.word_rows.specs.declared.link_word.LinkWord.TheVariants.{Nil}
-use Rattle.core_model.specs.declared.point.Back.{Back}
 use Rattle.core_model.specs.LaneSizes.{LaneSizes}
 use Rattle.core_model.specs.State.{State}
-use Rattle.core_model.specs.Fact.{linked, next_is, reads}
-use Rattle.core_model.specs.Help.{help_of}
+use Rattle.core_model.specs.Fact.{linked, next_is}
 use Rattle.core_model.specs.Facts.{Holds}
 use Rattle.core_model.specs.Ghost.{Ghost, positions, joint, at}
 use Rattle.core_model.specs.Lawful.{head_word, Lawful}
@@ -89,12 +87,8 @@ module _ (z : LaneSizes) (s : State) (L : Lawful z s) (c : ℕ) where
     by None at e = (at, same_node p _ e)
     by (Some a) at e = absurd (not_ann p a (z.first + L.ghost.head) e)
 
-  -- who finds an announcement in HEAD may help it
   pub ann_stands : (a n : ℕ) → s.memory.head ≡ Ann a n → L.ghost.ann ≡ Some a
   ann_stands a n is = by L.ghost.ann (sym is ∙ L.list.head.named) where
     by : (x : Option ℕ) → Ann a n ≡ head_word z.first L.ghost.path L.ghost.head x → x ≡ Some a
     by None e = absurd (cc e)
     by (Some x) e = ap Some (sym (same_ann a x n (z.first + L.ghost.head) e))
-
-  pub finds : (a n : ℕ) → s.memory.head ≡ Ann a n → (b : Back) → Holds z (world s L.ghost) c (reads 0 (help_of a b))
-  finds a n is b = let at = ann_stands a n is in record { installed = L.announced.installed a at; inside = L.announced.inside a at; old_head = λ l. absurd (omega arith); first = λ l. absurd (omega arith); last = λ l. absurd (omega arith); counts = λ l. absurd (omega arith) }

@@ -23,7 +23,8 @@ use Rattle.core_model.specs.Facts.{Holds, AtPoint}
 use Rattle.core_model.specs.Ghost.{Ghost, joint}
 use Rattle.core_model.specs.Lawful.{Lawful}
 use Rattle.core_model.proofs.Rely.{third, fourth, world}
-use Rattle.core_model.proofs.Preserves.{known, stutters, changed, same_places, write_read, stutters_at, stutters_with}
+use Rattle.core_model.proofs.Preserves.{known, stutters, changed, stutters_at, stutters_with}
+use Rattle.core_model.proofs.StoredAgain.{same_places, write_read}
 use Rattle.core_model.specs.declared.point.Point.TheVariants.{Idle}
 use Rattle.core_model.proofs.Lookups.{next_found, node_found}
 use Rattle.core_model.specs.declared.point.Point.TheVariants as point
@@ -38,14 +39,15 @@ use Rattle.excess_count.specs.Got.{got_count, values_from}
 use Rattle.excess_count.specs.Pairing.{paired}
 use Rattle.excess_count.proofs.ExcessLaws.{enqueue_count-enq, enqueue_count-deq}
 use Rattle.excess_count.proofs.ReplayLaws.{got_count-counted, queue_from-counted}
-use Rattle.core_model.specs.declared.point.Draft.{Draft}
+use Rattle.core_model.specs.declared.point.Plan.{Plan}
+use Rattle.core_model.specs.declared.point.Closing.TheVariants.{Batch}
 use Rattle.core_model.specs.declared.point.ManyPoint.TheVariants as many
 use Rattle.core_model.specs.Many as many_dequeues
 use Rattle.core_model.proofs.Runs.{length-run, take-run, drop-run}
 use Rattle.core_model.proofs.Excess.{all_excess, none_enqueued, paired_enough}
 use Rattle.excess_count.proofs.PairingLaws.{paired_right}
 
-module _ (z : LaneSizes) (s : State) (L : Lawful z s) (c : ℕ) (d : Draft) (lone : Holds z (world s L.ghost) c (only_dequeues d)) (off : Holds z (world s L.ghost) c (linearized_is false)) (draft : Holds z (world s L.ghost) c (drafts (command (s.callers c)) d)) where
+module _ (z : LaneSizes) (s : State) (L : Lawful z s) (c : ℕ) (d : Plan) (lone : Holds z (world s L.ghost) c (only_dequeues d.notice)) (off : Holds z (world s L.ghost) c (linearized_is false)) (draft : Holds z (world s L.ghost) c (drafts (command (s.callers c)) d.notice)) where
   abbrev G : Ghost
   G = L.ghost
 
@@ -110,8 +112,8 @@ module _ (z : LaneSizes) (s : State) (L : Lawful z s) (c : ℕ) (d : Draft) (lon
         ∙ paired_right me.ops (last_queue s.history) me.values (read_is ∙ (sym (take-run value_at (suc G.head) G.rest wanted enough_there)
         ∙ (λ i. take ((sym gets_all ∙ sym (got_count-counted d.notice.counts me.ops (last_queue s.history) G.rest counts_are length_queue)) i) (sym (all_of (last_queue s.history) ∙ queue_was) i))))
 
-    pub moved_many : Lawful z (changed s c (record s.memory { head = Node (far_behind d.notice.old_head r d.notice.counts.deqs) }) (s.history ++ own_group c (s.callers c) ∷ []) (last z s L c (paired (s.callers c).ops d.notice.counts.deqs (s.callers c).values)))
-    moved_many = head_moved z s L c d.notice.old_head r wanted (paired me.ops wanted me.values) off draft.known some_ops head enough_there row_is (let l = past in let cnt = count_is in omega arith) right leaves
+    pub moved_many : Lawful z (changed s c (record s.memory { head = Node (far_behind d.notice.old_head r d.notice.counts.deqs) }) (s.history ++ own_group c (s.callers c) ∷ []) (last z s L c (Batch d.notice.counts.deqs)))
+    moved_many = head_moved z s L c d.notice.old_head r wanted (Batch wanted) off draft.known some_ops head enough_there row_is (let l = past in let cnt = count_is in omega arith) right leaves
 
   -- the queue is empty
   module _ (on : Holds z (world s L.ghost) c (linked d.notice.old_head)) (seen : Holds z (world s L.ghost) c (head_seen d.notice.old_head)) (nil : s.memory.link d.notice.old_head.row ≡ Nil) where
@@ -134,25 +136,25 @@ module _ (z : LaneSizes) (s : State) (L : Lawful z s) (c : ℕ) (d : Draft) (lon
       paired_empty (Enq v ∷ ops) none vs = let e = enqueue_count-enq v ops in absurd (omega arith)
       paired_empty (Deq ∷ ops) none vs = let e = enqueue_count-deq ops in ap (λ (xs : List Answer). Empty ∷ xs) (paired_empty ops (omega arith) vs)
 
-    pub all_found_empty : Lawful z (changed s c s.memory (s.history ++ own_group c (s.callers c) ∷ []) (last z s L c (paired (s.callers c).ops 0 (s.callers c).values)))
-    all_found_empty = found_empty z s L c (paired me.ops 0 me.values) off draft.known some_ops all_empty (none_left ∙ sym none_there)
+    pub all_found_empty : Lawful z (changed s c s.memory (s.history ++ own_group c (s.callers c) ∷ []) (last z s L c (Batch 0)))
+    all_found_empty = found_empty z s L c (Batch 0) off draft.known some_ops all_empty (none_left ∙ sym none_there)
 
 module _ (z : LaneSizes) (s : State) (L : Lawful z s) (c : ℕ) where
   abbrev own : Group
   own = own_group c (s.callers c)
 
-  move_head_many : (d : Draft) (r : ℕ) (x : HeadWord) → s.memory.head ≡ x → (b : Bool) → is_node x d.notice.old_head ≡ b → AtPoint z (world s L.ghost) c (s.callers c) (point.Many d (many.MoveHead r))
+  move_head_many : (d : Plan) (r : ℕ) (x : HeadWord) → s.memory.head ≡ x → (b : Bool) → is_node x d.notice.old_head ≡ b → AtPoint z (world s L.ghost) c (s.callers c) (point.Many d (many.MoveHead r))
       → Lawful z (changed s c (write s.memory Head (cond b (OfHead (Node (far_behind d.notice.old_head r d.notice.counts.deqs))) (OfHead x))) (history_after b s.history own)
-      (followed (length (history_after b s.history own)) c (s.callers c) (cond b (Answers d.notice.counts.deqs) (GoesOn (point.Many d many.LoadHead)))))
+      (followed z (length (history_after b s.history own)) c (s.callers c) (cond b (Answers d.notice.counts.deqs) (GoesOn (point.Many d many.LoadHead)))))
   move_head_many d r x is false apart f = stutters z s L c (point.Many d many.LoadHead) Head (OfHead x) (ap OfHead is) (record { call = f.call; here = (f.here.0, tt) })
   move_head_many d r (Node q) is true same f = moved_many z s L c d (fourth f.call) f.call.0 f.call.1.0 r f.here.1.0 (let all = third f.here in omega arith) (fourth f.here) (is ∙ ap Node (same_places q d.notice.old_head same))
   move_head_many d r (Ann a m) is true same f = absurd (cc same)
 
-  pub preserves_move_head_many : (d : Draft) (r : ℕ) → (s.callers c).point ≡ point.Many d (many.MoveHead r) → Lawful z (step_at z s c (point.Many d (many.MoveHead r)))
+  pub preserves_move_head_many : (d : Plan) (r : ℕ) → (s.callers c).point ≡ point.Many d (many.MoveHead r) → Lawful z (step_at z s c (point.Many d (many.MoveHead r)))
   preserves_move_head_many d r is = move_head_many d r s.memory.head refl (is_node s.memory.head d.notice.old_head) refl (known z s L c (point.Many d (many.MoveHead r)) is)
 
   -- the first row behind the dummy is the next one of the walk
-  first_next : (d : Draft) (n : ℕ) (b : Bool) → s.memory.link d.notice.old_head.row ≡ joint b n → AtPoint z (world s L.ghost) c (s.callers c) (point.Many d many.LoadDummy)
+  first_next : (d : Plan) (n : ℕ) (b : Bool) → s.memory.link d.notice.old_head.row ≡ joint b n → AtPoint z (world s L.ghost) c (s.callers c) (point.Many d many.LoadDummy)
       → AtPoint z (world s L.ghost) c (stepped_with (s.callers c) (point.Many d (many.LoadValue n (d.notice.counts.deqs - 1))) []) (point.Many d (many.LoadValue n (d.notice.counts.deqs - 1)))
   first_next d n b is f = let next = (next_found z s L c d.notice.old_head n b f.here.1.0 is).0 in let some = (fourth f.call).1 in record {
     call = f.call;
@@ -170,18 +172,18 @@ module _ (z : LaneSizes) (s : State) (L : Lawful z s) (c : ℕ) where
   }
 
   -- the walk begins behind the dummy
-  dummy_over : (d : Draft) (n : ℕ) (b : Bool) → s.memory.link d.notice.old_head.row ≡ joint b n → linearizes (point.Many d many.LoadDummy) (OfLink (s.memory.link d.notice.old_head.row)) ≡ false
+  dummy_over : (d : Plan) (n : ℕ) (b : Bool) → s.memory.link d.notice.old_head.row ≡ joint b n → linearizes (point.Many d many.LoadDummy) (OfLink (s.memory.link d.notice.old_head.row)) ≡ false
       → course (point.Many d many.LoadDummy) (OfLink (s.memory.link d.notice.old_head.row)) ≡ Walks (point.Many d (many.LoadValue n (d.notice.counts.deqs - 1)))
       → AtPoint z (world s L.ghost) c (s.callers c) (point.Many d many.LoadDummy) → Lawful z (step_at z s c (point.Many d many.LoadDummy))
   dummy_over d n b is quiet goes f = stutters_with z s L c (point.Many d many.LoadDummy) (point.Many d (many.LoadValue n (d.notice.counts.deqs - 1))) [] (Walks (point.Many d (many.LoadValue n (d.notice.counts.deqs - 1)))) refl quiet goes (λ _. refl) f.call.0.1 (first_next d n b is f)
 
-  many_dummy : (d : Draft) (x : LinkWord) → s.memory.link d.notice.old_head.row ≡ x → AtPoint z (world s L.ghost) c (s.callers c) (point.Many d many.LoadDummy) → Lawful z (step_at z s c (point.Many d many.LoadDummy))
+  many_dummy : (d : Plan) (x : LinkWord) → s.memory.link d.notice.old_head.row ≡ x → AtPoint z (world s L.ghost) c (s.callers c) (point.Many d many.LoadDummy) → Lawful z (step_at z s c (point.Many d many.LoadDummy))
   many_dummy d Nil is f = subst (λ (x : LinkWord). Lawful z (step_with z s c (point.Many d many.LoadDummy) (OfLink x))) (sym is)
-      (subst (λ (m : Memory). Lawful z (changed s c m (s.history ++ own ∷ []) (last z s L c (paired (s.callers c).ops 0 (s.callers c).values)))) (sym (ap (write s.memory (Link d.notice.old_head.row)) (ap OfLink (sym is)) ∙ write_read s.memory (Link d.notice.old_head.row)))
+      (subst (λ (m : Memory). Lawful z (changed s c m (s.history ++ own ∷ []) (last z s L c (Batch 0)))) (sym (ap (write s.memory (Link d.notice.old_head.row)) (ap OfLink (sym is)) ∙ write_read s.memory (Link d.notice.old_head.row)))
       (all_found_empty z s L c d (fourth f.call) f.call.0 f.call.1.0 f.here.1.0 (third f.here) is))
   many_dummy d (Single n) is f = dummy_over d n false is (ap is_nil is) (ap (many_dequeues.after_dummy d) is) f
   many_dummy d (Chain n) is f = dummy_over d n true is (ap is_nil is) (ap (many_dequeues.after_dummy d) is) f
   many_dummy d Shut is f = stutters_at z s L c (point.Many d many.LoadDummy) (point.Many d many.LoadHead) refl (ap is_nil is) (ap (many_dequeues.after_dummy d) is) (record { call = f.call; here = (f.here.0, tt) })
 
-  pub preserves_many_dummy : (d : Draft) → (s.callers c).point ≡ point.Many d many.LoadDummy → Lawful z (step_at z s c (point.Many d many.LoadDummy))
+  pub preserves_many_dummy : (d : Plan) → (s.callers c).point ≡ point.Many d many.LoadDummy → Lawful z (step_at z s c (point.Many d many.LoadDummy))
   preserves_many_dummy d is = many_dummy d (s.memory.link d.notice.old_head.row) refl (known z s L c (point.Many d many.LoadDummy) is)

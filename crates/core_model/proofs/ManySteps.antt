@@ -1,5 +1,5 @@
--- Each step of several dequeues and no enqueue: the walk behind the dummy, and the words of the announcement.
-use Rattle.std.proofs.Common.{◌≡◌, ℕ, zero, suc, ◌+◌, ◌<◌, Bool, true, false, cond, List, [], ◌∷◌, ◌++◌, length, sym, refl, ap, ◌∙◌, subst, arith, le_refl, length-append, None, ◌-◌, leb}
+-- Each step of several dequeues and no enqueue on their walk behind the dummy.
+use Rattle.std.proofs.Common.{◌≡◌, ℕ, zero, suc, ◌+◌, ◌<◌, Bool, true, false, cond, List, [], ◌∷◌, ◌++◌, length, sym, refl, ap, ◌∙◌, subst, arith, le_refl, length-append, None, ◌-◌, leb, Option, Some}
 use Rattle.word_rows.specs.declared.place.Place.{Place}
 use Rattle.word_rows.specs.declared.head_word.HeadWord.{HeadWord}
 use Rattle.word_rows.specs.declared.head_word.HeadWord.TheVariants.{Node, Ann}
@@ -10,22 +10,23 @@ use Rattle.word_rows.specs.declared.content.Content.TheVariants.{OfHead, OfLink,
 use Rattle.core_model.specs.declared.course.Course.TheVariants.{GoesOn, Answers, WalksMore}
 use Rattle.core_model.specs.Functions.{run, put}
 use Rattle.core_model.specs.LaneSizes.{LaneSizes}
-use Rattle.core_model.specs.State.{Caller, State, write, head_in, command}
+use Rattle.core_model.specs.State.{Caller, State, write, head_in, command, Memory}
 use Rattle.core_model.specs.Act.{is_node, same_place, location}
-use Rattle.core_model.specs.Fact.{has_walked, written, head_written, is_walking}
-use Rattle.core_model.specs.Step.{step_with, step_at, stepped, stepped_with}
-use Rattle.core_model.specs.Facts.{Holds, AtPoint, AllAgree, stored_before, Each}
-use Rattle.core_model.specs.Ghost.{Ghost, World, joint}
+use Rattle.core_model.specs.Fact.{has_walked, is_walking, spares}
+use Rattle.core_model.specs.Step.{step_with, step_at, stepped, stepped_with, followed}
+use Rattle.core_model.specs.Facts.{Holds, AtPoint, Each}
+use Rattle.core_model.specs.Ghost.{Ghost, joint}
 use Rattle.core_model.specs.Lawful.{Lawful, LinksIn}
 use Rattle.core_model.proofs.Rely.{third, fourth, world}
 use Rattle.core_model.proofs.Preserves.{known, stutters, changed, point_changes, stutters_with}
+use Rattle.core_model.proofs.StoredAgain.{write_read}
 use Rattle.std.proofs.lemmas.Bool.{leb-true}
 use mathlib.Core.Logic.{dite}
 use native.Mathlib.Decide.{dec_le}
 use Rattle.core_model.specs.declared.point.Point.TheVariants.{Idle}
 use Rattle.core_model.specs.Help.{help_of}
 use Rattle.core_model.proofs.Tails.{exchanges, with_memory}
-use Rattle.core_model.proofs.Lookups.{on_list, next_found, node_found, finds}
+use Rattle.core_model.proofs.Lookups.{on_list, next_found, node_found}
 use Rattle.bq_model.specs.declared.shape.Shape.{Shape}
 use Rattle.word_rows.specs.declared.content.Content.{Content}
 use Rattle.word_rows.specs.Contents.{MayHold}
@@ -35,21 +36,19 @@ use Rattle.core_model.proofs.Fitting.{fresh_help, course_either}
 use Rattle.core_model.specs.declared.point.Point.TheVariants as point
 use Rattle.core_model.specs.declared.point.Back.TheVariants as back
 use Rattle.core_model.specs.declared.point.HelpPoint.TheVariants as help
-use Rattle.core_model.specs.declared.point.Draft.{Draft}
+use Rattle.core_model.specs.declared.point.Plan.{Plan}
 use Rattle.core_model.specs.declared.point.ManyPoint.TheVariants as many
-use Rattle.word_rows.specs.declared.location.AnnField.{AnnField}
 use Rattle.word_rows.specs.declared.location.AnnField.TheVariants as field
 use Rattle.core_model.specs.declared.point.Notice.{Notice}
 use Rattle.core_model.specs.declared.point.ManyPoint.{ManyPoint}
 use Rattle.core_model.specs.declared.point.Point.{Point}
 use Rattle.core_model.specs.declared.point.BatchPoint.TheVariants as batch
-use Rattle.core_model.specs.Batch.{on_head}
 use Rattle.core_model.specs.Many as dequeues
-use Rattle.core_model.specs.Fits.{DraftFits}
+use Rattle.core_model.specs.Fits.{PlanFits, ChosenFits, NoticeFits}
 use Rattle.word_rows.specs.Sizes.{rows_of}
-use Rattle.core_model.proofs.Puts.{put_here, put_else, run_last}
-use Rattle.core_model.proofs.BatchRows.{ann_stored}
+use Rattle.core_model.proofs.Puts.{run_last}
 use Rattle.core_model.proofs.ManyMoves.{preserves_many_dummy, preserves_move_head_many}
+use Rattle.core_model.proofs.FillScans.{hears, scan_begins}
 
 module _ (z : LaneSizes) (s : State) (L : Lawful z s) (c : ℕ) where
   abbrev G : Ghost
@@ -58,9 +57,9 @@ module _ (z : LaneSizes) (s : State) (L : Lawful z s) (c : ℕ) where
   abbrev me : Caller
   me = s.callers c
 
-  -- what was known of the draft, where it says another old head
-  on_dummy : (d : Draft) (p : Place) → Each z (world s L.ghost) c (dequeues.call_knows (command (s.callers c)) d) → Each z (world s L.ghost) c (dequeues.call_knows (command (s.callers c)) (on_head d p))
-  on_dummy d p f = (
+  -- what was known of the plan, where it says another old head
+  known_on_dummy : (d : Plan) (p : Place) → Each z (world s L.ghost) c (dequeues.call_knows (command (s.callers c)) d) → Each z (world s L.ghost) c (dequeues.call_knows (command (s.callers c)) (dequeues.on_dummy d p))
+  known_on_dummy d p f = (
     f.0,
     (
       let x = f.1.0 in let y = x.describes in record {
@@ -68,26 +67,24 @@ module _ (z : LaneSizes) (s : State) (L : Lawful z s) (c : ℕ) where
         describes = record { counts = y.counts; number = y.number; order0 = y.order0; order1 = y.order1; order2 = y.order2; order3 = y.order3 };
         some = x.some;
         last = x.last;
-        taken = x.taken;
-        inside = x.inside;
       },
       (third f, (fourth f, tt)),
     ),
   )
 
   -- it helps the announcement that it found in HEAD
-  ann_met : (d : Draft) (a n : ℕ) → s.memory.head ≡ Ann a n → Each z (world s L.ghost) c (dequeues.call_knows (command (s.callers c)) d) → Holds z (world s L.ghost) c (written d field.OldTail)
-      → Lawful z (changed s c (write s.memory Head (OfHead (Ann a n))) s.history (stepped (s.callers c) (point.Help (help_of a (back.Many d)) help.LoadOldHead)))
-  ann_met d a n is f w = stutters z s L c (point.Help (help_of a (back.Many d)) help.LoadOldHead) Head (OfHead (Ann a n)) (ap OfHead is)
-      (record { call = (finds z s L c a n is (back.Many d), (fourth f, (f.0, (f.1.0, (third f, (w, tt)))))); here = tt })
+  ann_met : (d : Plan) (a n : ℕ) → s.memory.head ≡ Ann a n → Each z (world s L.ghost) c (dequeues.call_knows (command (s.callers c)) d) → Holds z (world s L.ghost) c (spares d.ann)
+      → Lawful z (changed s c (write s.memory Head (OfHead (Ann a n))) s.history (stepped (s.callers c) (point.Help (help_of a n (back.Many d)) help.StoreHazard)))
+  ann_met d a n is f w = stutters z s L c (point.Help (help_of a n (back.Many d)) help.StoreHazard) Head (OfHead (Ann a n)) (ap OfHead is)
+      (record { call = ((λ own. absurd own), (fourth f, (f.0, (f.1.0, (third f, (w, tt)))))); here = tt })
 
-  many_head : (d : Draft) (x : HeadWord) → s.memory.head ≡ x → AtPoint z (world s L.ghost) c (s.callers c) (point.Many d many.LoadHead) → Lawful z (step_with z s c (point.Many d many.LoadHead) (OfHead x))
-  many_head d (Node p) is f = let node = (node_found z s L c p is).1 in let count = ap (λ (q : Place). q.count) node in let w = f.here.0 in
-      stutters z s L c (point.Many (on_head d p) many.LoadDummy) Head (OfHead (Node p)) (ap OfHead is)
-      (record { call = on_dummy d p f.call; here = (record { fresh = w.fresh; owner = w.owner; fields = tt }, (on_list z s L c p G.head count (ap (λ (q : Place). q.row) node) (le_refl _) (omega arith), ((omega arith), tt))) })
+  many_head : (d : Plan) (x : HeadWord) → s.memory.head ≡ x → AtPoint z (world s L.ghost) c (s.callers c) (point.Many d many.LoadHead) → Lawful z (step_with z s c (point.Many d many.LoadHead) (OfHead x))
+  many_head d (Node p) is f = let node = (node_found z s L c p is).1 in let count = ap (λ (q : Place). q.count) node in
+      stutters z s L c (point.Many (dequeues.on_dummy d p) many.LoadDummy) Head (OfHead (Node p)) (ap OfHead is)
+      (record { call = known_on_dummy d p f.call; here = (f.here.0, (on_list z s L c p G.head count (ap (λ (q : Place). q.row) node) (le_refl _) (omega arith), ((omega arith), tt))) })
   many_head d (Ann a n) is f = ann_met d a n is f.call f.here.0
 
-  many_chained : (d : Draft) (x : HeadWord) → s.memory.head ≡ x → AtPoint z (world s L.ghost) c (s.callers c) (point.Many d many.LoadChained) → Lawful z (step_with z s c (point.Many d many.LoadChained) (OfHead x))
+  many_chained : (d : Plan) (x : HeadWord) → s.memory.head ≡ x → AtPoint z (world s L.ghost) c (s.callers c) (point.Many d many.LoadChained) → Lawful z (step_with z s c (point.Many d many.LoadChained) (OfHead x))
   many_chained d (Node p) is f = stutters z s L c (point.Many d many.LoadHead) Head (OfHead (Node p)) (ap OfHead is) (record { call = f.call; here = f.here })
   many_chained d (Ann a n) is f = ann_met d a n is f.call f.here.0
 
@@ -110,8 +107,16 @@ module _ (z : LaneSizes) (s : State) (L : Lawful z s) (c : ℕ) where
     never true x e = cc e
     never false x e = cc e
 
-  many_link : (d : Draft) (r l : ℕ) (x : LinkWord) → s.memory.link r ≡ x → AtPoint z (world s L.ghost) c (s.callers c) (point.Many d (many.LoadLink r l)) → Lawful z (step_with z s c (point.Many d (many.LoadLink r l)) (OfLink x))
-  many_link d r l Nil is f = stutters z s L c (point.Many d (many.StoreField field.OldHead)) (Link r) (OfLink Nil) (ap OfLink is) (record { call = f.call; here = (f.here.0, tt) })
+  -- there are too few values: the announcement is stored, or chosen first
+  announces : (d : Plan) (a : Option ℕ) → d.ann ≡ a → Each z (world s L.ghost) c (dequeues.call_knows (command (s.callers c)) d) → Holds z (world s L.ghost) c (spares d.ann)
+      → Lawful z record { memory = s.memory; history = s.history; callers = put s.callers c (followed z (length s.history) c (s.callers c) (dequeues.announces d.notice a)) }
+  announces d None _ f spare = hears z s L c d.notice 0 [] (scan_begins z s L c s.memory d.notice f.0 f.1.0 (third f)) f.0
+  announces d (Some a) is f spare = point_changes z s L c (point.Batch (record { ann = a; notice = d.notice }) (batch.StoreAll field.OldHead))
+      (record { call = (f.0, (f.1.0, (third f, tt))); here = (fourth f, (subst (λ (x : Option ℕ). Holds z (world s L.ghost) c (spares x)) is spare, tt)) })
+
+  many_link : (d : Plan) (r l : ℕ) (x : LinkWord) → s.memory.link r ≡ x → AtPoint z (world s L.ghost) c (s.callers c) (point.Many d (many.LoadLink r l)) → Lawful z (step_with z s c (point.Many d (many.LoadLink r l)) (OfLink x))
+  many_link d r l Nil is f = subst (λ (m : Memory). Lawful z record { memory = m; history = s.history; callers = put s.callers c (followed z (length s.history) c (s.callers c) (dequeues.announces d.notice d.ann)) })
+      (sym (ap (write s.memory (Link r)) (ap OfLink (sym is)) ∙ write_read s.memory (Link r))) (announces d d.ann refl f.call f.here.0)
   many_link d r l (Single n) is f = stutters z s L c (point.Many d (many.LoadValue n l)) (Link r) (OfLink (Single n)) (ap OfLink is)
       (record { call = f.call; here = (f.here.0, (next_on_walk d.notice.old_head me.values r n false is (subst (LinksIn z.rows) is (L.list.links r)) f.here.1.0, (third f.here, tt))) })
   many_link d r l (Chain n) is f = stutters z s L c (point.Many d (many.LoadValue n l)) (Link r) (OfLink (Chain n)) (ap OfLink is)
@@ -131,13 +136,13 @@ module _ (z : LaneSizes) (s : State) (L : Lawful z s) (c : ℕ) where
     );
   }
 
-  value_on : (d : Draft) (r l : ℕ) → AtPoint z (world s L.ghost) c (s.callers c) (point.Many d (many.LoadValue r l))
+  value_on : (d : Plan) (r l : ℕ) → AtPoint z (world s L.ghost) c (s.callers c) (point.Many d (many.LoadValue r l))
       → AtPoint z (world s L.ghost) c (stepped_with (s.callers c) (point.Many d (dequeues.after_value r l)) ((s.callers c).values ++ s.memory.value r ∷ [])) (point.Many d (dequeues.after_value r l))
   value_on d r zero f = let long = length-append me.values (s.memory.value r ∷ []) in let all = third f.here in record { call = f.call; here = (f.here.0, (one_more d.notice.old_head me.values r f.here.1.0, ((omega arith), tt))) }
   value_on d r (suc l) f = let long = length-append me.values (s.memory.value r ∷ []) in let all = third f.here in record { call = f.call; here = (f.here.0, (one_more d.notice.old_head me.values r f.here.1.0, ((omega arith), tt))) }
 
   -- the tail is far enough, or it lies before the new dummy
-  many_tail : (d : Draft) (r : ℕ) (b : Bool) → leb d.notice.counts.deqs (s.memory.tail.count - d.notice.old_head.count) ≡ b → AtPoint z (world s L.ghost) c (s.callers c) (point.Many d (many.LoadTail r))
+  many_tail : (d : Plan) (r : ℕ) (b : Bool) → leb d.notice.counts.deqs (s.memory.tail.count - d.notice.old_head.count) ≡ b → AtPoint z (world s L.ghost) c (s.callers c) (point.Many d (many.LoadTail r))
       → Lawful z (changed s c (write s.memory Tail (OfTail s.memory.tail)) s.history (stepped (s.callers c) (point.Many d (cond b (many.MoveHead r) (many.LoadBehind s.memory.tail)))))
   many_tail d r true is f = let far = leb-true d.notice.counts.deqs (s.memory.tail.count - d.notice.old_head.count) is in let some = (fourth f.call).1 in let count = ap (λ (p : Place). p.count) L.list.tail.named in
       stutters z s L c (point.Many d (many.MoveHead r)) Tail (OfTail s.memory.tail) refl (record { call = f.call; here = (f.here.0, (f.here.1.0, (third f.here, ((omega arith), tt)))) })
@@ -145,60 +150,18 @@ module _ (z : LaneSizes) (s : State) (L : Lawful z s) (c : ℕ) where
       stutters z s L c (point.Many d (many.LoadBehind s.memory.tail)) Tail (OfTail s.memory.tail) refl
       (record { call = f.call; here = (f.here.0, (on_list z s L c s.memory.tail G.tail count (ap (λ (p : Place). p.row) L.list.tail.named) from (omega arith), tt)) })
 
-  many_behind : (d : Draft) (p : Place) (x : LinkWord) → s.memory.link p.row ≡ x → AtPoint z (world s L.ghost) c (s.callers c) (point.Many d (many.LoadBehind p)) → Lawful z (step_with z s c (point.Many d (many.LoadBehind p)) (OfLink x))
+  many_behind : (d : Plan) (p : Place) (x : LinkWord) → s.memory.link p.row ≡ x → AtPoint z (world s L.ghost) c (s.callers c) (point.Many d (many.LoadBehind p)) → Lawful z (step_with z s c (point.Many d (many.LoadBehind p)) (OfLink x))
   many_behind d p Nil is f = stutters z s L c (point.Many d many.LoadHead) (Link p.row) (OfLink Nil) (ap OfLink is) (record { call = f.call; here = (f.here.0, tt) })
   many_behind d p (Single n) is f = let next = next_found z s L c p n false f.here.1.0 is in stutters z s L c (point.Many d (many.PassTail p n)) (Link p.row) (OfLink (Single n)) (ap OfLink is) (record { call = f.call; here = (f.here.0, (next.0, (next.1, tt))) })
   many_behind d p (Chain n) is f = stutters z s L c (point.Many d many.LoadChained) (Link p.row) (OfLink (Chain n)) (ap OfLink is) (record { call = f.call; here = (f.here.0, tt) })
   many_behind d p Shut is f = stutters z s L c (point.Many d many.LoadHead) (Link p.row) (OfLink Shut) (ap OfLink is) (record { call = f.call; here = (f.here.0, tt) })
 
-  many_pass : (d : Draft) (p : Place) (n : ℕ) → (s.callers c).point ≡ point.Many d (many.PassTail p n) → Lawful z (step_at z s c (point.Many d (many.PassTail p n)))
+  many_pass : (d : Plan) (p : Place) (n : ℕ) → (s.callers c).point ≡ point.Many d (many.PassTail p n) → Lawful z (step_at z s c (point.Many d (many.PassTail p n)))
   many_pass d p n is = let f = known z s L c (point.Many d (many.PassTail p n)) is in exchanges z s L c p n (stepped (s.callers c) (point.Many d many.LoadHead)) f.here.1.0 (third f.here)
       (λ memory l. let k = known z (with_memory z s L c memory) l c (point.Many d (many.PassTail p n)) is in point_changes z (with_memory z s L c memory) l c (point.Many d many.LoadHead) (record { call = k.call; here = (k.here.0, tt) })) (same_place s.memory.tail p) refl
 
-  -- a field of what the draft says is stored, where OldHead is stored already
-  module _ (d : Draft) (f : AnnField) (n : Notice) (next : AnnField) (agrees : AllAgree (stored_before next) (s.memory.old_tail d.ann) n d.notice) (same : n.old_head ≡ (s.memory.notice d.ann).old_head)
-      (w : Holds z (world s L.ghost) c (written d f)) (hw : Holds z (world s L.ghost) c (head_written d)) where
-    abbrev S : World
-    S = record { memory = record s.memory { notice = put s.memory.notice d.ann n }; history = s.history; ghost = L.ghost }
-
-    next_written : Holds z S c (written d next)
-    next_written = record { fresh = w.fresh; owner = w.owner; fields = subst (λ (y : Notice). AllAgree (stored_before next) (s.memory.old_tail d.ann) y d.notice) (sym (put_here s.memory.notice d.ann n)) agrees }
-
-    head_stays : Holds z S c (head_written d)
-    head_stays = record { fresh = w.fresh; owner = w.owner; old_head = ap (λ (y : Notice). y.old_head) (put_here s.memory.notice d.ann n) ∙ (same ∙ hw.old_head) }
-
-    -- the next field comes, or the install
-    field_said : Each z (world s L.ghost) c (dequeues.call_knows (command (s.callers c)) d) → (t : Point) → AtPoint z S c (stepped (s.callers c) t) t
-        → Lawful z (changed s c (record s.memory { notice = put s.memory.notice d.ann n }) s.history (stepped (s.callers c) t))
-    field_said call t knows = ann_stored z s L c d.ann w.fresh w.owner (put s.memory.notice d.ann n) s.memory.old_tail (λ x ne. put_else s.memory.notice d.ann n x ne) (λ _ _. refl) call.0.1 t knows
-
-  many_field : (d : Draft) (f : AnnField) → AtPoint z (world s L.ghost) c (s.callers c) (point.Many d (many.StoreField f)) → Lawful z (step_at z s c (point.Many d (many.StoreField f)))
-  many_field d field.OldHead f = let n : Notice = record (s.memory.notice d.ann) { old_head = d.notice.old_head } in let w = f.here.0 in
-      ann_stored z s L c d.ann w.fresh w.owner (put s.memory.notice d.ann n) s.memory.old_tail (λ x ne. put_else s.memory.notice d.ann n x ne) (λ _ _. refl) f.call.0.1 (point.Many d (many.StoreField field.OldTail))
-      (record { call = f.call; here = (record { fresh = w.fresh; owner = w.owner; fields = tt }, (record { fresh = w.fresh; owner = w.owner; old_head = ap (λ (y : Notice). y.old_head) (put_here s.memory.notice d.ann n) }, tt)) })
-  many_field d field.OldTail f = let w = f.here.0 in let hw = f.here.1.0 in
-      ann_stored z s L c d.ann w.fresh w.owner s.memory.notice (put s.memory.old_tail d.ann None) (λ _ _. refl) (λ x ne. put_else s.memory.old_tail d.ann None x ne) f.call.0.1 (point.Many d (many.StoreField field.First))
-      (record { call = f.call; here = (record { fresh = w.fresh; owner = w.owner; fields = (put_here s.memory.old_tail d.ann None, tt) }, (record { fresh = hw.fresh; owner = hw.owner; old_head = hw.old_head }, tt)) })
-  many_field d field.First f = let n : Notice = record (s.memory.notice d.ann) { first = d.notice.first } in let w = f.here.0 in let hw = f.here.1.0 in let a : AllAgree (stored_before field.Last) (s.memory.old_tail d.ann) n d.notice = (refl, w.fields) in
-      field_said d field.First n field.Last a refl w hw f.call (point.Many d (many.StoreField field.Last)) (record { call = f.call; here = (next_written d field.First n field.Last a refl w hw, (head_stays d field.First n field.Last a refl w hw, tt)) })
-  many_field d field.Last f = let n : Notice = record (s.memory.notice d.ann) { last = d.notice.last } in let w = f.here.0 in let hw = f.here.1.0 in let a : AllAgree (stored_before field.Counts) (s.memory.old_tail d.ann) n d.notice = (refl, w.fields) in
-      field_said d field.Last n field.Counts a refl w hw f.call (point.Many d (many.StoreField field.Counts)) (record { call = f.call; here = (next_written d field.Last n field.Counts a refl w hw, (head_stays d field.Last n field.Counts a refl w hw, tt)) })
-  many_field d field.Counts f = let n : Notice = record (s.memory.notice d.ann) { counts = d.notice.counts } in let w = f.here.0 in let hw = f.here.1.0 in let a : AllAgree (stored_before field.BatchNo) (s.memory.old_tail d.ann) n d.notice = (refl, w.fields) in
-      field_said d field.Counts n field.BatchNo a refl w hw f.call (point.Many d (many.StoreField field.BatchNo)) (record { call = f.call; here = (next_written d field.Counts n field.BatchNo a refl w hw, (head_stays d field.Counts n field.BatchNo a refl w hw, tt)) })
-  many_field d field.BatchNo f = let n : Notice = record (s.memory.notice d.ann) { number = d.notice.number } in let w = f.here.0 in let hw = f.here.1.0 in let a : AllAgree (stored_before field.Order0) (s.memory.old_tail d.ann) n d.notice = (refl, w.fields) in
-      field_said d field.BatchNo n field.Order0 a refl w hw f.call (point.Many d (many.StoreField field.Order0)) (record { call = f.call; here = (next_written d field.BatchNo n field.Order0 a refl w hw, (head_stays d field.BatchNo n field.Order0 a refl w hw, tt)) })
-  many_field d field.Order0 f = let n : Notice = record (s.memory.notice d.ann) { order0 = d.notice.order0 } in let w = f.here.0 in let hw = f.here.1.0 in let a : AllAgree (stored_before field.Order1) (s.memory.old_tail d.ann) n d.notice = (refl, w.fields) in
-      field_said d field.Order0 n field.Order1 a refl w hw f.call (point.Many d (many.StoreField field.Order1)) (record { call = f.call; here = (next_written d field.Order0 n field.Order1 a refl w hw, (head_stays d field.Order0 n field.Order1 a refl w hw, tt)) })
-  many_field d field.Order1 f = let n : Notice = record (s.memory.notice d.ann) { order1 = d.notice.order1 } in let w = f.here.0 in let hw = f.here.1.0 in let a : AllAgree (stored_before field.Order2) (s.memory.old_tail d.ann) n d.notice = (refl, w.fields) in
-      field_said d field.Order1 n field.Order2 a refl w hw f.call (point.Many d (many.StoreField field.Order2)) (record { call = f.call; here = (next_written d field.Order1 n field.Order2 a refl w hw, (head_stays d field.Order1 n field.Order2 a refl w hw, tt)) })
-  many_field d field.Order2 f = let n : Notice = record (s.memory.notice d.ann) { order2 = d.notice.order2 } in let w = f.here.0 in let hw = f.here.1.0 in let a : AllAgree (stored_before field.Order3) (s.memory.old_tail d.ann) n d.notice = (refl, w.fields) in
-      field_said d field.Order2 n field.Order3 a refl w hw f.call (point.Many d (many.StoreField field.Order3)) (record { call = f.call; here = (next_written d field.Order2 n field.Order3 a refl w hw, (head_stays d field.Order2 n field.Order3 a refl w hw, tt)) })
-  many_field d field.Order3 f = let n : Notice = record (s.memory.notice d.ann) { order3 = d.notice.order3 } in let w = f.here.0 in let hw = f.here.1.0 in let a : AllAgree (stored_before field.OldHead) (s.memory.old_tail d.ann) n d.notice = (refl, w.fields) in
-      field_said d field.Order3 n field.OldHead a refl w hw f.call (point.Batch d batch.Install)
-      (record { call = (f.call.0, (f.call.1.0, tt)); here = (head_stays d field.Order3 n field.OldHead a refl w hw, (third f.call, (next_written d field.Order3 n field.OldHead a refl w hw, tt))) })
-
   -- each step of dequeues alone, until their announcement is installed
-  pub preserves_many : (d : Draft) (p : ManyPoint) → (s.callers c).point ≡ point.Many d p → Lawful z (step_at z s c (point.Many d p))
+  pub preserves_many : (d : Plan) (p : ManyPoint) → (s.callers c).point ≡ point.Many d p → Lawful z (step_at z s c (point.Many d p))
   preserves_many d many.LoadHead is = many_head d s.memory.head refl (known z s L c (point.Many d many.LoadHead) is)
   preserves_many d many.LoadDummy is = preserves_many_dummy z s L c d is
   preserves_many d (many.LoadLink r l) is = many_link d r l (s.memory.link r) refl (known z s L c (point.Many d (many.LoadLink r l)) is)
@@ -209,32 +172,35 @@ module _ (z : LaneSizes) (s : State) (L : Lawful z s) (c : ℕ) where
   preserves_many d (many.LoadBehind p) is = many_behind d p (s.memory.link p.row) refl (known z s L c (point.Many d (many.LoadBehind p)) is)
   preserves_many d (many.PassTail p n) is = many_pass d p n is
   preserves_many d many.LoadChained is = many_chained d s.memory.head refl (known z s L c (point.Many d many.LoadChained) is)
-  preserves_many d (many.StoreField f) is = many_field d f (known z s L c (point.Many d (many.StoreField f)) is)
 
 -- and they go on with what fits
 module _ (s : Shape) where
-  head_fits : (d : Draft) (x : HeadWord) → DraftFits s d → MayHold s Head (OfHead x) → PointFits s (dequeues.after_head d x)
+  head_fits : (d : Plan) (x : HeadWord) → PlanFits s d → MayHold s Head (OfHead x) → PointFits s (dequeues.after_head d x)
   head_fits d (Node p) a m = let n = a.1 in (
     (a.0, record { old_head = m.1; first = n.first; last = n.last; counts = n.counts; number = n.number; order0 = n.order0; order1 = n.order1; order2 = n.order2; order3 = n.order3 }),
     tt,
   )
-  head_fits d (Ann n k) a m = (fresh_help s n (back.Many d) m.1.0 a, tt)
+  head_fits d (Ann n k) a m = (fresh_help s n k (back.Many d) m.1.0 m.1.1 a, tt)
 
-  chained_fits : (d : Draft) (x : HeadWord) → DraftFits s d → MayHold s Head (OfHead x) → PointFits s (dequeues.after_chained d x)
+  chained_fits : (d : Plan) (x : HeadWord) → PlanFits s d → MayHold s Head (OfHead x) → PointFits s (dequeues.after_chained d x)
   chained_fits d (Node p) a m = (a, tt)
-  chained_fits d (Ann n k) a m = (fresh_help s n (back.Many d) m.1.0 a, tt)
+  chained_fits d (Ann n k) a m = (fresh_help s n k (back.Many d) m.1.0 m.1.1 a, tt)
 
-  dummy_fits : (d : Draft) (r : ℕ) (x : LinkWord) → DraftFits s d → MayHold s (Link r) (OfLink x) → CourseFits s (dequeues.after_dummy d x)
+  dummy_fits : (d : Plan) (r : ℕ) (x : LinkWord) → PlanFits s d → MayHold s (Link r) (OfLink x) → CourseFits s (dequeues.after_dummy d x)
   dummy_fits d r Nil a m = tt
   dummy_fits d r (Single n) a m = (a, m.1)
   dummy_fits d r (Chain n) a m = (a, m.1)
   dummy_fits d r Shut a m = (a, tt)
 
-  link_fits : (r l : ℕ) (x : LinkWord) → MayHold s (Link r) (OfLink x) → dequeues.fits s (dequeues.after_link l x)
-  link_fits r l Nil m = tt
-  link_fits r l (Single n) m = m.1
-  link_fits r l (Chain n) m = m.1
-  link_fits r l Shut m = tt
+  announces_fits : (n : Notice) (a : Option ℕ) → ChosenFits s a → NoticeFits s n → CourseFits s (dequeues.announces n a)
+  announces_fits n None c a = a
+  announces_fits n (Some x) c a = (c, a)
+
+  link_fits : (d : Plan) (r l : ℕ) (x : LinkWord) → PlanFits s d → MayHold s (Link r) (OfLink x) → CourseFits s (dequeues.after_link d l x)
+  link_fits d r l Nil a m = announces_fits d.notice d.ann a.0 a.1
+  link_fits d r l (Single n) a m = (a, m.1)
+  link_fits d r l (Chain n) a m = (a, m.1)
+  link_fits d r l Shut a m = (a, tt)
 
   value_fits : (r l : ℕ) → r < rows_of s → dequeues.fits s (dequeues.after_value r l)
   value_fits r zero a = a
@@ -250,27 +216,14 @@ module _ (s : Shape) where
   either_fits true p q a b = a
   either_fits false p q a b = b
 
-  field_fits : (d : Draft) (f : AnnField) → DraftFits s d → PointFits s (dequeues.after_field d f)
-  field_fits d field.OldHead a = (a, tt)
-  field_fits d field.OldTail a = (a, tt)
-  field_fits d field.First a = (a, tt)
-  field_fits d field.Last a = (a, tt)
-  field_fits d field.Counts a = (a, tt)
-  field_fits d field.BatchNo a = (a, tt)
-  field_fits d field.Order0 a = (a, tt)
-  field_fits d field.Order1 a = (a, tt)
-  field_fits d field.Order2 a = (a, tt)
-  field_fits d field.Order3 a = (a, tt)
-
-  pub many_fits : (d : Draft) (p : ManyPoint) (x : Content) → DraftFits s d → dequeues.fits s p → MayHold s (location (dequeues.act d p)) x → CourseFits s (dequeues.course d p x)
+  pub many_fits : (d : Plan) (p : ManyPoint) (x : Content) → PlanFits s d → dequeues.fits s p → MayHold s (location (dequeues.act d p)) x → CourseFits s (dequeues.course d p x)
   many_fits d many.LoadHead (OfHead x) a b m = head_fits d x a m
   many_fits d many.LoadDummy (OfLink x) a b m = dummy_fits d d.notice.old_head.row x a m
-  many_fits d (many.LoadLink r l) (OfLink x) a b m = (a, link_fits r l x m)
+  many_fits d (many.LoadLink r l) (OfLink x) a b m = link_fits d r l x a m
   many_fits d (many.LoadValue r l) x a b m = (a, value_fits r l b)
   many_fits d (many.LoadTail r) (OfTail x) a b m = (a, either_fits (leb d.notice.counts.deqs (x.count - d.notice.old_head.count)) (many.MoveHead r) (many.LoadBehind x) b m.1)
   many_fits d (many.MoveHead r) x a b m = course_either s (is_node (head_in x) d.notice.old_head) (Answers d.notice.counts.deqs) (GoesOn (point.Many d many.LoadHead)) tt (a, tt)
   many_fits d (many.LoadBehind p) (OfLink x) a b m = (a, behind_fits p x b m)
   many_fits d (many.PassTail p r) x a b m = (a, tt)
   many_fits d many.LoadChained (OfHead x) a b m = chained_fits d x a m
-  many_fits d (many.StoreField f) x a b m = field_fits d f a
   many_fits _ _ _ _ _ m = absurd m.0

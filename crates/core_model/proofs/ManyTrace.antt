@@ -1,5 +1,5 @@
 -- Schedules of dequeues alone, by hand.
-use Rattle.std.proofs.Common.{◌≡◌, ℕ, zero, suc, ◌+◌, ◌*◌, ◌-◌, ◌/◌, Bool, true, false, cond, List, [], ◌∷◌, ◌++◌, refl, Some}
+use Rattle.std.proofs.Common.{◌≡◌, ℕ, ◌+◌, ◌*◌, ◌-◌, ◌/◌, Bool, true, false, List, [], ◌∷◌, ◌++◌, refl, Some}
 use Rattle.bq_model.specs.declared.op.Op.{Op}
 use Rattle.bq_model.specs.declared.op.Op.TheVariants.{Enq, Deq}
 use Rattle.bq_model.specs.declared.op.Answer.TheVariants.{Got, Empty}
@@ -18,19 +18,11 @@ use Rattle.core_model.specs.Notices.{place}
 use Rattle.core_model.specs.State.{State}
 use Rattle.core_model.specs.Step.{next}
 use Rattle.core_model.specs.Start.{start, opening}
+use Rattle.core_model.proofs.Trace.{steps, until}
 
 -- n callers with eight item rows and four stoppers each
 abbrev lane : ℕ → LaneSizes
-lane callers = record { callers = callers; first = 0; allowance = 100; rows = 1 + callers * 12; items = 8; first_row = λ c. 1 + c * 12; home = λ r. (r - 1) / 12 }
-
--- n steps of caller c, and its steps until its next one is of this kind
-steps : LaneSizes → ℕ → ℕ → State → State
-steps z c zero s = s
-steps z c (suc n) s = steps z c n (next z s c)
-
-until : (Point → Bool) → LaneSizes → ℕ → ℕ → State → State
-until is z c zero s = s
-until is z c (suc n) s = cond (is (s.callers c).point) s (until is z c n (next z s c))
+lane callers = record { callers = callers; first = 0; allowance = 100; rows = 1 + callers * 12; items = 8; stoppers = 4; first_row = λ c. 1 + c * 12; home = λ r. (r - 1) / 12 }
 
 installs : Point → Bool
 installs (point.Batch d batch.Install) = true

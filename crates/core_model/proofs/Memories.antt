@@ -7,14 +7,14 @@ use Rattle.word_rows.specs.declared.head_word.HeadWord.TheVariants.{Node}
 use Rattle.word_rows.specs.declared.location.AnnField.{AnnField}
 use Rattle.word_rows.specs.declared.location.AnnField.TheVariants.{OldHead, OldTail, First, Last, Counts, BatchNo, Order0, Order1, Order2, Order3}
 use Rattle.word_rows.specs.declared.location.Location.{Location}
-use Rattle.word_rows.specs.declared.location.Location.TheVariants.{Head, Tail, Link, Value, AnnWord}
+use Rattle.word_rows.specs.declared.location.Location.TheVariants.{Head, Tail, Link, Value, AnnWord, AnnHazard}
 use Rattle.word_rows.specs.declared.content.Content.{Content}
-use Rattle.word_rows.specs.declared.content.Content.TheVariants.{OfHead, OfTail, OfLink, OfValue, OfOldTail, OfChainEnd, OfCounts, OfBatchNo, OfOrder}
+use Rattle.word_rows.specs.declared.content.Content.TheVariants.{OfHead, OfTail, OfLink, OfValue, OfOldTail, OfChainEnd, OfCounts, OfBatchNo, OfOrder, OfAnnHazard}
 use Rattle.word_rows.specs.Memory.{Writes}
 use Rattle.core_model.specs.declared.point.Notice.{Notice}
 use Rattle.core_model.specs.Fits.{IsHeld}
 use Rattle.core_model.specs.Notices.{with_field}
-use Rattle.core_model.specs.State.{Memory, read, field_of, read_field, write, write_field, link_in, value_in, old_tail_in}
+use Rattle.core_model.specs.State.{Memory, read, field_of, read_field, write, write_field, link_in, value_in, old_tail_in, hazard_in}
 use Rattle.core_model.proofs.Puts.{put_here, put_else}
 
 -- what is stored in a field is found there
@@ -36,6 +36,7 @@ written_here m Head (OfHead y) h = refl
 written_here m Tail (OfTail y) h = refl
 written_here m (Link r) (OfLink y) h = ap OfLink (put_here m.link r y)
 written_here m (Value r) (OfValue y) h = ap OfValue (put_here m.value r y)
+written_here m (AnnHazard c) (OfAnnHazard y) h = ap OfAnnHazard (put_here m.ann_hazard c y)
 written_here m (AnnWord a OldTail) (OfOldTail y) h = ap OfOldTail (put_here m.old_tail a y)
 written_here m (AnnWord a OldHead) x h = ap (λ (n : Notice). field_of (m.old_tail a) n OldHead) (put_here m.notice a (with_field (m.notice a) OldHead x)) ∙ field_written (m.old_tail a) (m.notice a) a OldHead x (λ e. cc e) h
 written_here m (AnnWord a First) x h = ap (λ (n : Notice). field_of (m.old_tail a) n First) (put_here m.notice a (with_field (m.notice a) First x)) ∙ field_written (m.old_tail a) (m.notice a) a First x (λ e. cc e) h
@@ -108,6 +109,8 @@ written_elsewhere m (Link r) (Link q) x other = ap OfLink (put_else m.link r (li
 written_elsewhere m (Link r) _ x other = refl
 written_elsewhere m (Value r) (Value q) x other = ap OfValue (put_else m.value r (value_in x) q (λ e. other (ap Value e)))
 written_elsewhere m (Value r) _ x other = refl
+written_elsewhere m (AnnHazard c) (AnnHazard d) x other = ap OfAnnHazard (put_else m.ann_hazard c (hazard_in x) d (λ e. other (ap AnnHazard e)))
+written_elsewhere m (AnnHazard c) _ x other = refl
 written_elsewhere m (AnnWord b g) (AnnWord a f) x other = dite (ℕ_discrete a b)
     (λ same. subst (λ (c : ℕ). read_field (write_field m c g x) a f ≡ read_field m a f) same (beside m a g f x (λ e. other (λ i. AnnWord (same i) (e i)))))
     (λ ne. apart m b a g f x ne)

@@ -1,5 +1,5 @@
 -- An empty lane is lawful.
-use Rattle.std.proofs.Common.{◌≡◌, ◌≢◌, ℕ, suc, ◌+◌, ◌*◌, ◌-◌, ◌/◌, ◌<◌, ◌≤◌, eqb, Bool, false, [], cond, refl, ap, ◌∙◌, arith, ne_eqb, le_refl, mul-le-mul_right, Some, None, mul-le-mul_left, subst}
+use Rattle.std.proofs.Common.{◌≡◌, ◌≢◌, ℕ, suc, ◌+◌, ◌*◌, ◌-◌, ◌/◌, ◌<◌, ◌≤◌, eqb, Bool, false, [], cond, refl, ap, ◌∙◌, arith, ne_eqb, le_refl, mul-le-mul_right, Some, None, subst}
 use Rattle.std.proofs.lemmas.Nat.{div-mul-add}
 use Rattle.std.proofs.lemmas.List.Elements.{All-nil}
 use Rattle.bq_model.specs.declared.group.Group.{Group}
@@ -15,7 +15,7 @@ use Rattle.core_model.specs.Lawful.{Lawful}
 use Rattle.core_model.proofs.Rely.{world, unused_waits, unused_decides}
 
 abbrev first_ghost : Ghost
-first_ghost = record { path = λ _. 0; chained = λ _. false; spot = λ r. cond (eqb r 0) (Some 0) None; head = 0; rest = 0; tail = 0; ann = None; shown = 0; queued = 0; linearized = λ _. false; stage = λ _. unused; span = λ _. 0; chain = λ _. 0; cause = λ _. 0 }
+first_ghost = record { path = λ _. 0; chained = λ _. false; spot = λ r. cond (eqb r 0) (Some 0) None; head = 0; rest = 0; tail = 0; ann = None; shown = 0; queued = 0; linearized = λ _. false; stage = λ _. unused; span = λ _. 0; chain = λ _. 0; cause = λ _. 0; held = λ _. None }
 
 -- the i-th of w rows of caller c, of n callers
 row_inside : (n w c i : ℕ) → i < w → c < n → 1 + c * w + i < 1 + n * w
@@ -23,10 +23,6 @@ row_inside n w c i below known = let most : suc c * w ≤ n * w = mul-le-mul_rig
 
 pub row_home : (w c i : ℕ) → i < w → (1 + c * w + i - 1) / w ≡ c
 row_home w c i below = ap (λ (n : ℕ). n / w) (let e : 1 + c * w + i - 1 ≡ c * w + i = omega arith in e) ∙ div-mul-add c w i below
-
--- each caller has as many stoppers as there are callers
-pub enough_stoppers : (z : Shape) → z.callers ≤ stoppers_of z
-enough_stoppers z = let most : z.callers * 1 ≤ z.callers * (z.batch + z.callers + 1) = mul-le-mul_left z.callers (omega arith) in let e : z.callers * 1 ≡ z.callers = omega arith in omega arith
 
 pub opens : (z : Shape) → Lawful (lane_sizes z) (opening (lane_sizes z))
 opens z = record {
@@ -70,14 +66,14 @@ opens z = record {
   told = λ a e. absurd (nothing e);
   pending = λ a e. absurd (unused_waits refl e);
   callers = λ c. record {
-    unmade = λ _ _ _. refl;
+    guards = record { word = refl; holds = refl; installed = λ a e. absurd (nothing e); known = λ a e. absurd (nothing e) };
     own_groups = refl;
-    allowed = record { within = omega arith; rows = refl; has_rows = omega arith; anns = refl; has_anns = omega arith; few_stoppers = le_refl _ };
+    allowed = record { within = omega arith; rows = refl; has_rows = omega arith; stoppers = refl; has_stoppers = omega arith };
     knows = record {
       unused = ((λ i _ below known. never_taken c i below known), λ i _ below known. never_stopped c i below known);
       started = le_refl _;
       last = record { none = λ _. refl; done = λ is. absurd (never is) };
-      at_point = record { call = ((refl, λ a e _. nothing e), tt); here = ((refl, λ some. absurd (some refl)), tt) };
+      at_point = record { call = ((refl, (λ a e _. nothing e), λ _ a e _. nothing e), tt); here = ((refl, (λ some. absurd (some refl)), refl), tt) };
     };
   };
 } where
@@ -99,5 +95,5 @@ opens z = record {
   never_taken : (c i : ℕ) → i < items_of z → c < z.callers → Owns (lane_sizes z) (world (opening (lane_sizes z)) first_ghost) c (item (lane_sizes z) c i)
   never_taken c i below known = own_row c i (omega arith) known
 
-  never_stopped : (c i : ℕ) → i < z.callers → c < z.callers → Owns (lane_sizes z) (world (opening (lane_sizes z)) first_ghost) c (stopper (lane_sizes z) c i)
-  never_stopped c i below known = let all = enough_stoppers z in subst (Owns (lane_sizes z) (world (opening (lane_sizes z)) first_ghost) c) (let e : 1 + c * own_rows_of z + (items_of z + i) ≡ 1 + c * own_rows_of z + items_of z + i = omega arith in e) (own_row c (items_of z + i) (omega arith) known)
+  never_stopped : (c i : ℕ) → i < stoppers_of z → c < z.callers → Owns (lane_sizes z) (world (opening (lane_sizes z)) first_ghost) c (stopper (lane_sizes z) c i)
+  never_stopped c i below known = subst (Owns (lane_sizes z) (world (opening (lane_sizes z)) first_ghost) c) (let e : 1 + c * own_rows_of z + (items_of z + i) ≡ 1 + c * own_rows_of z + items_of z + i = omega arith in e) (own_row c (items_of z + i) (omega arith) known)

@@ -1,5 +1,5 @@
 -- Functions with one value changed, and runs of values.
-use Rattle.std.proofs.Common.{◌≡◌, ◌≢◌, ℕ, zero, suc, ◌+◌, ◌<◌, ◌≤◌, Bool, cond, List, [], ◌∷◌, ◌++◌, sym, refl, ap, ◌∙◌, subst, eq-eqb, ne_eqb, arith}
+use Rattle.std.proofs.Common.{◌≡◌, ◌≢◌, ℕ, zero, suc, ◌+◌, ◌<◌, ◌≤◌, Bool, true, false, cond, List, [], ◌∷◌, ◌++◌, sym, refl, ap, ◌∙◌, subst, eq-eqb, ne_eqb, arith, eqb}
 use mathlib.Core.Logic.{dite}
 use native.Mathlib.Decide.{ℕ_discrete}
 use Rattle.core_model.specs.Functions.{put, run}
@@ -20,6 +20,15 @@ module _ {A : Type 0} (f : ℕ → A) (i : ℕ) (x : A) where
 -- the value that is there already
 pub put_same : {A : Type 0} → (f : ℕ → A) (i : ℕ) → put f i (f i) ≡ f
 put_same f i = λ k j. put_all f i (f i) (λ n y. y ≡ f n) refl (λ n _. refl) j k
+
+twice : {A : Type 0} → (b : Bool) (x y z : A) → cond b y (cond b x z) ≡ cond b y z
+twice true x y z = refl
+twice false x y z = refl
+
+-- changed twice at the same place
+pub put_twice : {A : Type 0} → (f : ℕ → A) (i : ℕ) (x y : A) → put (put f i x) i y ≡ put f i y
+unfolding twice
+put_twice f i x y = λ k j. twice (eqb j i) x y (f j) k
 
 pub run_last : (f : ℕ → ℕ) (i n : ℕ) → run f i (suc n) ≡ run f i n ++ f (i + n) ∷ []
 run_last f i zero = ap (λ (k : ℕ). f k ∷ []) (omega arith)

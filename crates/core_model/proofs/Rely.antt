@@ -40,6 +40,9 @@ one_position {i = i} {j = j} e f = same (sym e ∙ f) where
   same : decided i ≡ decided j → i ≡ j
   same e = cc e
 
+pub true_false : true ≡ false → ⊥
+true_false e = cc e
+
 pub one_some : {A : Type 0} {i j : A} → Some i ≡ Some j → i ≡ j
 one_some e = cc e
 
@@ -99,4 +102,6 @@ pub record Rely (z : LaneSizes) (Touch : ℕ → Type 0) (a b : World) : Type 0 
   pub value_own : (r : ℕ) → Unlinked a r → ¬ (Touch r) → b.memory.value r ≡ a.memory.value r
   pub value_path : (i : ℕ) → a.ghost.head ≤ i → i < positions a.ghost → b.memory.value (a.ghost.path i) ≡ a.memory.value (a.ghost.path i)
   pub anns : AnnRely z a b
+  -- who comes to hold an announcement finds it in HEAD
+  pub holds : (d x : ℕ) → b.ghost.held d ≡ Some x → (a.ghost.held d ≡ Some x) ⊎ (a.ghost.ann ≡ Some x)
   pub more : (new : List Group) × (b.history ≡ a.history ++ new)

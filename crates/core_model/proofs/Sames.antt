@@ -14,7 +14,7 @@ use Rattle.word_rows.specs.declared.link_word.LinkWord.TheVariants.{Nil, Single,
 use Rattle.word_rows.specs.declared.content.Content.{Content}
 use Rattle.word_rows.specs.declared.content.Content.TheVariants.{OfHead, OfTail, OfLink, OfValue, OfMark, OfNodeHazard, OfAnnHazard, OfOldTail, OfChainEnd, OfCounts, OfBatchNo, OfOrder}
 use Rattle.core_model.specs.Act.{same_place, same_head, same_link, same_old_tail, same_bit, same_marks, same_hazard, same_counts, same_number, same_content, effect}
-use Rattle.core_model.proofs.Preserves.{same_places}
+use Rattle.core_model.proofs.StoredAgain.{same_places}
 
 heads : (x y : HeadWord) → same_head x y ≡ true → x ≡ y
 heads (Node p) (Node q) e = ap Node (same_places p q e)

@@ -1,5 +1,5 @@
 -- What callers know stays true while the lane goes on.
-use Rattle.std.proofs.Common.{◌≡◌, ◌⊎◌, ℕ, suc, ◌+◌, ◌-◌, ◌<◌, ◌≤◌, true, false, List, [], ◌∷◌, ◌++◌, length, take, sym, ap, ◌∙◌, subst, arith, append_assoc, length-append, ⊎_elim, Option, Some, refl}
+use Rattle.std.proofs.Common.{◌≡◌, ◌⊎◌, ℕ, suc, ◌+◌, ◌-◌, ◌<◌, ◌≤◌, true, false, List, [], ◌∷◌, ◌++◌, length, take, sym, ap, ◌∙◌, subst, arith, append_assoc, length-append, ⊎_elim, Option, Some, None, refl, inl, inr}
 use Rattle.bq_model.specs.declared.op.Answer.{Answer}
 use Rattle.bq_model.specs.declared.group.Group.{Group}
 use Rattle.bq_model.specs.History.{last_queue}
@@ -12,52 +12,16 @@ use Rattle.excess_count.specs.Counts.{successes_of}
 use Rattle.core_model.specs.Batches.{owner_of}
 use Rattle.core_model.specs.State.{Caller}
 use Rattle.core_model.specs.declared.point.Help.{Help}
-use Rattle.core_model.specs.declared.point.HelpPoint.{HelpPoint}
-use Rattle.core_model.specs.declared.point.HelpPoint.TheVariants as help
 use Rattle.core_model.specs.declared.point.Point.{Point}
-use Rattle.core_model.specs.Help as helping
-use Rattle.core_model.specs.Fact.{Fact, owns, holds_item, unused_rows, linked, head_seen, tail_seen, tail_past, next_is, by_single, next_value, linearized_is, is_op, answered, since, kept, rests, drafts, fills, enqueues, goes_on, written, head_written, reads, stands_at, before_end, is_old_tail, old_tail_is, tail_over, gets_so_many, walks, takes_effect, has_read, is_reading, only_dequeues, has_walked, is_walking, to_walk, too_few, enough, has_links}
-use Rattle.core_model.specs.Facts.{AllAgree, stored_before, Linearized, Owns, Holds, Each, call_knows, knows, AtPoint, Knows, NotToCome, HasWalked, IsWalking}
+use Rattle.core_model.specs.Fact.{Fact, owns, holds_item, unused_rows, linked, head_seen, tail_seen, tail_past, next_is, by_single, next_value, linearized_is, is_op, answered, since, kept, rests, drafts, fills, enqueues, goes_on, written, head_written, reads, stands_at, before_end, is_old_tail, old_tail_is, tail_over, gets_so_many, walks, takes_effect, has_read, is_reading, only_dequeues, has_walked, is_walking, to_walk, too_few, enough, has_links, helps, is_other, hazard_is, is_spare, spares, scanned}
+use Rattle.core_model.specs.Facts.{AllAgree, stored_before, Linearized, Owns, Holds, Each, call_knows, knows, AtPoint, Knows, NotToCome, HasWalked, IsWalking, Reads}
 use Rattle.core_model.specs.Ghost.{unused, waiting, decided, World, positions, On, Installed}
 use Rattle.core_model.specs.Kept.{Stands, numbered, Kept}
 use Rattle.core_model.proofs.Puts.{run_same}
+use Rattle.core_model.proofs.SharedFacts.{Shared, AllShared}
 use Rattle.core_model.proofs.Rely.{Rely, Drafts, unused_waits, unused_decides}
 use Rattle.core_model.proofs.Counting.{enqs_chain}
 use Rattle.core_model.specs.Stopper.{chain_rows}
-
--- facts that name nothing of the caller's own: a caller that helps another knows them alone
-abbrev pub Shared : Fact → Type 0
-Shared (owns n m r) = ⊥
-Shared (holds_item x) = ⊥
-Shared (unused_rows n m) = ⊥
-Shared (linearized_is d) = ⊥
-Shared (fills n m s ops i j) = ⊥
-Shared (written d f) = ⊥
-Shared (head_written d) = ⊥
-Shared (takes_effect x n own) = ⊥
-Shared _ = Unit {0}
-
-abbrev pub AllShared : List Fact → Type 0
-AllShared [] = Unit {0}
-AllShared (f ∷ fs) = Shared f × AllShared fs
-
--- so is all that a help knows of the announcement
-pub helping_shared : (h : Help) (p : HelpPoint) → AllShared (helping.knows h p)
-helping_shared h help.LoadOldHead = tt
-helping_shared h help.LoadFirst = tt
-helping_shared h help.LoadLast = tt
-helping_shared h help.LoadCounts = tt
-helping_shared h help.LoadTail = tt
-helping_shared h (help.LoadOldTail p) = (tt, (tt, (tt, tt)))
-helping_shared h (help.LoadLink p) = (tt, (tt, (tt, (tt, (tt, tt)))))
-helping_shared h (help.LinkChain p) = (tt, (tt, (tt, (tt, (tt, tt)))))
-helping_shared h (help.Decide p) = (tt, (tt, (tt, (tt, tt))))
-helping_shared h (help.PassTail p n) = (tt, (tt, tt))
-helping_shared h (help.RecordTail p) = (tt, tt)
-helping_shared h (help.LoadTailOver q) = (tt, (tt, tt))
-helping_shared h (help.MoveTailOver q) = (tt, (tt, tt))
-helping_shared h (help.LoadWalk m r l) = (tt, (tt, (tt, tt)))
-helping_shared h (help.MoveHead m r) = (tt, (tt, (tt, tt)))
 
 module _ (z : LaneSizes) (Touch : ℕ → Type 0) (a b : World) (g : Rely z Touch a b) (c : ℕ) where
   -- where a group stood, it stands
@@ -167,7 +131,19 @@ module _ (z : LaneSizes) (Touch : ℕ → Type 0) (a b : World) (g : Rely z Touc
         subst (On b (R.dummy + y)) (sym (g.path_same (R.dummy + y) on.inside)) (on_stable (R.dummy + y) (a.ghost.path (R.dummy + y)) on);
   }
 
-  pub shared_stable : (f : Fact) → Shared f → Holds z a c f → Holds z b c f
+  -- what a help has read, where the announcement is held or own as before
+  pub reads_stable : (n : ℕ) (h : Help) → (b.ghost.held c ≡ Some h.ann) ⊎ (owner_of z h.ann ≡ c) → Reads z a c n h → Reads z b c n h
+  reads_stable n h guard x = let notice = g.anns.notice_same h.ann x.installed in record {
+    installed = g.anns.installed h.ann x.installed;
+    kept = guard;
+    inside = x.inside;
+    old_head = λ l. ap (λ (s : Notice). s.old_head) notice ∙ x.old_head l;
+    first = λ l. ap (λ (s : Notice). s.first) notice ∙ x.first l;
+    last = λ l. ap (λ (s : Notice). s.last) notice ∙ x.last l;
+    counts = λ l. ap (λ (s : Notice). s.counts) notice ∙ x.counts l;
+  }
+
+  pub shared_stable : (f : Fact) → Shared a b c f → Holds z a c f → Holds z b c f
   unfolding linearized_stable stands_still
   shared_stable (linked p) _ x = record { position = x.position; count = x.count; on = on_stable x.position p.row x.on; inside = x.inside }
   shared_stable (head_seen p) _ x = let heads = g.heads in omega arith
@@ -191,14 +167,7 @@ module _ (z : LaneSizes) (Touch : ℕ → Type 0) (a b : World) (g : Rely z Touc
   shared_stable (too_few h p) _ x = x
   shared_stable (enough h p) _ x = x
   shared_stable (has_links h q) _ x = x
-  shared_stable (reads n h) _ x = let notice = g.anns.notice_same h.ann x.installed in record {
-    installed = g.anns.installed h.ann x.installed;
-    inside = x.inside;
-    old_head = λ l. ap (λ (s : Notice). s.old_head) notice ∙ x.old_head l;
-    first = λ l. ap (λ (s : Notice). s.first) notice ∙ x.first l;
-    last = λ l. ap (λ (s : Notice). s.last) notice ∙ x.last l;
-    counts = λ l. ap (λ (s : Notice). s.counts) notice ∙ x.counts l;
-  }
+  shared_stable (is_other e) _ x = x
   shared_stable (stands_at y p) _ x = (g.anns.installed y x.0, λ e. let s = still y e x.0 in let old = x.1 s.0 in let same = s.1 in omega arith)
   shared_stable (before_end y p) _ x = (
     g.anns.installed y x.0,
@@ -248,6 +217,7 @@ module _ (z : LaneSizes) (Touch : ℕ → Type 0) (a b : World) (g : Rely z Touc
   }
   shared_stable (has_read n own m vs l r) _ x = record {
     ann = x.ann;
+    owner = x.owner;
     position = x.position;
     is_decided = g.anns.done x.ann x.position x.is_decided;
     linearized = linearized_stable x.ann x.position n own x.is_decided x.linearized;
@@ -262,6 +232,7 @@ module _ (z : LaneSizes) (Touch : ℕ → Type 0) (a b : World) (g : Rely z Touc
   shared_stable (is_reading n own m vs l r) _ x = let R = x.linearized in let f : successes_of (a.memory.notice x.ann).counts m ≡ successes_of (a.memory.notice x.ann).counts (x.position - R.dummy) = ap (successes_of (a.memory.notice x.ann).counts) x.queued in let s = x.left in
       let on = R.rows (suc x.read) (omega arith) in let l = on.inside in record {
         ann = x.ann;
+        owner = x.owner;
         position = x.position;
         is_decided = g.anns.done x.ann x.position x.is_decided;
         linearized = linearized_stable x.ann x.position n own x.is_decided R;
@@ -279,8 +250,14 @@ module _ (z : LaneSizes) (Touch : ℕ → Type 0) (a b : World) (g : Rely z Touc
   shared_stable (written d f) bad x = absurd bad
   shared_stable (head_written d) bad x = absurd bad
   shared_stable (takes_effect y n own) bad x = absurd bad
+  shared_stable (reads n h) same x = reads_stable n h (⊎_elim (λ (held : a.ghost.held c ≡ Some h.ann). inl (same ∙ held)) (λ (own : owner_of z h.ann ≡ c). inr own) x.kept) x
+  shared_stable (helps h) _ x = λ own. let r = x own in (reads_stable 4 h (inr r.1) r.0, r.1)
+  shared_stable (hazard_is y) same x = same ∙ x
+  shared_stable (is_spare y) bad x = absurd bad
+  shared_stable (spares y) bad x = absurd bad
+  shared_stable (scanned e xs) bad x = absurd bad
 
-  pub all_shared_stable : (fs : List Fact) → AllShared fs → Each z a c fs → Each z b c fs
+  pub all_shared_stable : (fs : List Fact) → AllShared a b c fs → Each z a c fs → Each z b c fs
   all_shared_stable [] _ x = tt
   all_shared_stable (f ∷ fs) s x = (shared_stable f s.0 x.0, all_shared_stable fs s.1 x.1)
 
@@ -298,15 +275,33 @@ module _ (z : LaneSizes) (Touch : ℕ → Type 0) (a b : World) (g : Rely z Touc
           differ : true ≡ false → ⊥
           differ e = cc e
 
-    pub stable : (f : Fact) → Holds z a c f → Holds z b c f
-    stable (owns n m r) x = (owns_stable r (apart r x.0.at_home) x.0, x.1, x.2)
-    stable (holds_item i) x = (owns_stable i.row (apart i.row x.0.at_home) x.0, g.value_own i.row x.0.unlinked (apart i.row x.0.at_home) ∙ x.1)
-    stable (unused_rows n m) x = (
+    -- these facts speak of what the caller itself holds and names
+    abbrev pub Guarding : Fact → Type 0
+    Guarding (reads n h) = b.ghost.held c ≡ a.ghost.held c
+    Guarding (hazard_is x) = b.memory.ann_hazard c ≡ a.memory.ann_hazard c
+    Guarding _ = Unit {0}
+
+    -- nobody comes to hold what isn't in HEAD
+    spare_stable : (y : ℕ) → Holds z a c (is_spare y) → Holds z b c (is_spare y)
+    spare_stable y x = record {
+      owner = x.owner;
+      apart = λ w e same. x.apart w (stood_there w e (ap (owner_of z) same ∙ x.owner)) same;
+      unheld = λ d held. ⊎_elim (λ (old : a.ghost.held d ≡ Some y). x.unheld d old) (λ (at : a.ghost.ann ≡ Some y). x.apart y at refl) (g.holds d y held);
+    }
+
+    spares_stable : (y : Option ℕ) → Holds z a c (spares y) → Holds z b c (spares y)
+    spares_stable None x = tt
+    spares_stable (Some y) x = spare_stable y x
+
+    pub stable_while : (f : Fact) → Guarding f → Holds z a c f → Holds z b c f
+    stable_while (owns n m r) _ x = (owns_stable r (apart r x.0.at_home) x.0, x.1, x.2)
+    stable_while (holds_item i) _ x = (owns_stable i.row (apart i.row x.0.at_home) x.0, g.value_own i.row x.0.unlinked (apart i.row x.0.at_home) ∙ x.1)
+    stable_while (unused_rows n m) _ x = (
       (λ i from below known. let o = x.0 i from below known in owns_stable (item z c i) (apart (item z c i) o.at_home) o),
       λ i from below known. let o = x.1 i from below known in owns_stable (stopper z c i) (apart (stopper z c i) o.at_home) o,
     )
-    stable (linearized_is d) x = (linearized ∙ x.0, λ y e own. x.1 y (stood_there y e own) own)
-    stable (fills n m s ops i j) x = let off = λ (l : ℕ) (below : l < chain_rows s.counts). apart (s.first + l) (x.free l below).at_home in let one = λ (l : ℕ) (below : l < s.counts.enqs). enqs_chain s.counts l below in record {
+    stable_while (linearized_is d) _ x = (linearized ∙ x.0, (λ y e own. x.1 y (stood_there y e own) own), λ off y held. ⊎_elim (λ (old : a.ghost.held c ≡ Some y). x.2 off y old) (λ (at : a.ghost.ann ≡ Some y). x.1 y at) (g.holds c y held))
+    stable_while (fills n m s ops i j) _ x = let off = λ (l : ℕ) (below : l < chain_rows s.counts). apart (s.first + l) (x.free l below).at_home in let one = λ (l : ℕ) (below : l < s.counts.enqs). enqs_chain s.counts l below in record {
       free = λ l below. let o = x.free l below in record { at_home = o.at_home; inside = o.inside; unlinked = g.spot_own (s.first + l) o.unlinked (off l below) };
       items = x.items;
       taken = x.taken;
@@ -314,58 +309,78 @@ module _ (z : LaneSizes) (Touch : ℕ → Type 0) (a b : World) (g : Rely z Touc
       joined = λ l below more. g.link_own (s.first + l) (x.free l below).unlinked (off l below) ∙ x.joined l below more;
       nil = λ l below more. g.link_own (s.first + l) (x.free l below).unlinked (off l below) ∙ x.nil l below more;
     }
-    stable (written d f) x = let w = own_drafts d.ann x.owner x.fresh in record {
+    stable_while (written d f) _ x = let w = own_drafts d.ann x.owner x.fresh in record {
       fresh = w.0;
       owner = x.owner;
       fields = subst (λ (y : Option Place × Notice). AllAgree (stored_before f) y.0 y.1 d.notice) (λ i. (sym w.2 i, sym w.1 i)) x.fields;
     }
-    stable (head_written d) x = let w = own_drafts d.ann x.owner x.fresh in record { fresh = w.0; owner = x.owner; old_head = ap (λ (s : Notice). s.old_head) w.1 ∙ x.old_head }
-    stable (takes_effect y n own) x = record {
+    stable_while (head_written d) _ x = let w = own_drafts d.ann x.owner x.fresh in record { fresh = w.0; owner = x.owner; old_head = ap (λ (s : Notice). s.old_head) w.1 ∙ x.old_head }
+    stable_while (takes_effect y n own) _ x = record {
       installed = g.anns.installed y x.installed;
       owner = x.owner;
       stands = λ i e. let old = was y i x.installed x.owner e in let r = x.stands i old in (linearized ∙ r.0, linearized_stable y i n own old r.1);
       only = λ w e o. x.only w (stood_there w e o) o;
     }
-    stable (linked p) x = shared_stable (linked p) tt x
-    stable (head_seen p) x = shared_stable (head_seen p) tt x
-    stable (tail_seen p) x = shared_stable (tail_seen p) tt x
-    stable (tail_past p) x = shared_stable (tail_past p) tt x
-    stable (next_is p n) x = shared_stable (next_is p n) tt x
-    stable (by_single p) x = shared_stable (by_single p) tt x
-    stable (next_value p v) x = shared_stable (next_value p v) tt x
-    stable (is_op ops op) x = x
-    stable (answered n own xs) x = shared_stable (answered n own xs) tt x
-    stable (since n) x = shared_stable (since n) tt x
-    stable (kept k) x = shared_stable (kept k) tt x
-    stable (rests k) x = x
-    stable (drafts k d) x = x
-    stable (enqueues ops s i r v) x = x
-    stable (goes_on s i r n) x = x
-    stable (only_dequeues d) x = x
-    stable (has_walked p vs r) x = shared_stable (has_walked p vs r) tt x
-    stable (is_walking p vs r) x = shared_stable (is_walking p vs r) tt x
-    stable (to_walk d vs l) x = x
-    stable (too_few h p) x = x
-    stable (enough h p) x = x
-    stable (has_links h q) x = x
-    stable (reads n h) x = shared_stable (reads n h) tt x
-    stable (stands_at y p) x = shared_stable (stands_at y p) tt x
-    stable (before_end y p) x = shared_stable (before_end y p) tt x
-    stable (is_old_tail y p) x = shared_stable (is_old_tail y p) tt x
-    stable (old_tail_is y q) x = shared_stable (old_tail_is y q) tt x
-    stable (tail_over y) x = shared_stable (tail_over y) tt x
-    stable (gets_so_many h m) x = shared_stable (gets_so_many h m) tt x
-    stable (walks y r l) x = shared_stable (walks y r l) tt x
-    stable (has_read n own m vs l r) x = shared_stable (has_read n own m vs l r) tt x
-    stable (is_reading n own m vs l r) x = shared_stable (is_reading n own m vs l r) tt x
+    stable_while (linked p) _ x = shared_stable (linked p) tt x
+    stable_while (head_seen p) _ x = shared_stable (head_seen p) tt x
+    stable_while (tail_seen p) _ x = shared_stable (tail_seen p) tt x
+    stable_while (tail_past p) _ x = shared_stable (tail_past p) tt x
+    stable_while (next_is p n) _ x = shared_stable (next_is p n) tt x
+    stable_while (by_single p) _ x = shared_stable (by_single p) tt x
+    stable_while (next_value p v) _ x = shared_stable (next_value p v) tt x
+    stable_while (is_op ops op) _ x = x
+    stable_while (answered n own xs) _ x = shared_stable (answered n own xs) tt x
+    stable_while (since n) _ x = shared_stable (since n) tt x
+    stable_while (kept k) _ x = shared_stable (kept k) tt x
+    stable_while (rests k) _ x = x
+    stable_while (drafts k d) _ x = x
+    stable_while (enqueues ops s i r v) _ x = x
+    stable_while (goes_on s i r n) _ x = x
+    stable_while (only_dequeues d) _ x = x
+    stable_while (has_walked p vs r) _ x = shared_stable (has_walked p vs r) tt x
+    stable_while (is_walking p vs r) _ x = shared_stable (is_walking p vs r) tt x
+    stable_while (to_walk d vs l) _ x = x
+    stable_while (too_few h p) _ x = x
+    stable_while (enough h p) _ x = x
+    stable_while (has_links h q) _ x = x
+    stable_while (reads n h) same x = shared_stable (reads n h) same x
+    stable_while (helps h) _ x = shared_stable (helps h) tt x
+    stable_while (hazard_is y) same x = same ∙ x
+    stable_while (is_spare y) _ x = spare_stable y x
+    stable_while (spares y) _ x = spares_stable y x
+    stable_while (scanned e xs) _ x = record {
+      few = x.few;
+      fewer = x.fewer;
+      plain = λ y at own. x.plain y (stood_there y at own) own;
+      unheld = λ d y below other own off held. ⊎_elim (λ (old : a.ghost.held d ≡ Some y). x.unheld d y below other own off old) (λ (at : a.ghost.ann ≡ Some y). x.plain y at own) (g.holds d y held);
+    }
+    stable_while (is_other e) _ x = x
+    stable_while (stands_at y p) _ x = shared_stable (stands_at y p) tt x
+    stable_while (before_end y p) _ x = shared_stable (before_end y p) tt x
+    stable_while (is_old_tail y p) _ x = shared_stable (is_old_tail y p) tt x
+    stable_while (old_tail_is y q) _ x = shared_stable (old_tail_is y q) tt x
+    stable_while (tail_over y) _ x = shared_stable (tail_over y) tt x
+    stable_while (gets_so_many h m) _ x = shared_stable (gets_so_many h m) tt x
+    stable_while (walks y r l) _ x = shared_stable (walks y r l) tt x
+    stable_while (has_read n own m vs l r) _ x = shared_stable (has_read n own m vs l r) tt x
+    stable_while (is_reading n own m vs l r) _ x = shared_stable (is_reading n own m vs l r) tt x
 
-    pub all_stable : (fs : List Fact) → Each z a c fs → Each z b c fs
-    all_stable [] x = tt
-    all_stable (f ∷ fs) x = (stable f x.0, all_stable fs x.1)
+    -- what the caller itself names and holds is left
+    module _ (hazard : b.memory.ann_hazard c ≡ a.memory.ann_hazard c) (held : b.ghost.held c ≡ a.ghost.held c) where
+      stable : (f : Fact) → Holds z a c f → Holds z b c f
+      stable f x = stable_while f (guards f) x where
+        guards : (f : Fact) → Guarding f
+        guards (reads n h) = held
+        guards (hazard_is y) = hazard
+        guards _ = tt
 
-    pub at_point_stable : (k : Caller) (t : Point) → AtPoint z a c k t → AtPoint z b c k t
-    at_point_stable k t f = record { call = all_stable (call_knows c k t) f.call; here = all_stable (knows c k t) f.here }
+      pub all_stable : (fs : List Fact) → Each z a c fs → Each z b c fs
+      all_stable [] x = tt
+      all_stable (f ∷ fs) x = (stable f x.0, all_stable fs x.1)
 
-    -- what a caller knows goes on to be so
-    pub knows_stable : (k : Caller) → Knows z a c k → Knows z b c k
-    knows_stable k f = record { unused = stable (unused_rows k.taken k.stopped) f.unused; started = stable (since k.started_at) f.started; last = stable (kept k) f.last; at_point = at_point_stable k k.point f.at_point }
+      pub at_point_stable : (k : Caller) (t : Point) → AtPoint z a c k t → AtPoint z b c k t
+      at_point_stable k t f = record { call = all_stable (call_knows c k t) f.call; here = all_stable (knows c k t) f.here }
+
+      -- what a caller knows goes on to be so
+      pub knows_stable : (k : Caller) → Knows z a c k → Knows z b c k
+      knows_stable k f = record { unused = stable (unused_rows k.taken k.stopped) f.unused; started = stable (since k.started_at) f.started; last = stable (kept k) f.last; at_point = at_point_stable k k.point f.at_point }

@@ -62,12 +62,12 @@ module _ (z : LaneSizes) (s : State) (L : Lawful z s) where
 pub puts_owners_group : (z : LaneSizes) (s : State) (c : ℕ) (h : Help) (p : Place) → (s.callers c).point ≡ point.Help h (help.LinkChain p) → s.memory.link p.row ≡ Nil
     → (next z s c).history ≡ s.history ++ own_group (owner_of z h.ann) (s.callers (owner_of z h.ann)) ∷ []
 puts_owners_group z s c h p point nil = history_added z s c ∙ ap (λ (gs : List Group). s.history ++ gs)
-    (ap (λ (t : Point). added_by z s.callers c t (read s.memory (target t))) point
+    (ap (λ (t : Point). added_by z s.callers c t (read s.memory (target c t))) point
     ∙ ap (λ (l : LinkWord). cond (is_nil l) (own_group (owner_of z h.ann) (s.callers (owner_of z h.ann)) ∷ []) []) nil)
 
 -- and so does the step that decides it without a link
 pub decides_owners_group : (z : LaneSizes) (s : State) (c : ℕ) (h : Help) (p : Place) → (s.callers c).point ≡ point.Help h (help.Decide p) → s.memory.old_tail h.ann ≡ None
     → (next z s c).history ≡ s.history ++ own_group (owner_of z h.ann) (s.callers (owner_of z h.ann)) ∷ []
 decides_owners_group z s c h p point none = history_added z s c ∙ ap (λ (gs : List Group). s.history ++ gs)
-    (ap (λ (t : Point). added_by z s.callers c t (read s.memory (target t))) point
+    (ap (λ (t : Point). added_by z s.callers c t (read s.memory (target c t))) point
     ∙ ap (λ (o : Option Place). cond (is_unknown o) (own_group (owner_of z h.ann) (s.callers (owner_of z h.ann)) ∷ []) []) none)

@@ -1,5 +1,5 @@
 -- The tail moves by one over a Single link.
-use Rattle.std.proofs.Common.{◌≡◌, inr, ⊎_elim, ◌*◌, ℕ, suc, ◌+◌, ◌≤◌, Bool, true, false, cond, [], sym, refl, ap, ◌∙◌, arith, le_refl}
+use Rattle.std.proofs.Common.{◌≡◌, inr, ⊎_elim, ◌*◌, ℕ, suc, ◌+◌, ◌≤◌, Bool, true, false, cond, [], sym, refl, ap, ◌∙◌, arith, le_refl, inl}
 use Rattle.std.proofs.lemmas.List.{append-nil}
 use Rattle.word_rows.specs.declared.place.Place.{Place}
 use Rattle.word_rows.specs.declared.location.Location.TheVariants.{Tail}
@@ -13,7 +13,8 @@ use Rattle.core_model.specs.Facts.{Holds}
 use Rattle.core_model.specs.Ghost.{decided, Ghost, World}
 use Rattle.core_model.specs.Lawful.{Lawful}
 use Rattle.core_model.proofs.Rely.{world, anns_same, Rely}
-use Rattle.core_model.proofs.Preserves.{caller_stable, changed, same_places, drafts_same}
+use Rattle.core_model.proofs.Preserves.{caller_stable, changed, drafts_same}
+use Rattle.core_model.proofs.StoredAgain.{same_places}
 use Rattle.core_model.proofs.Announces.{stages_moved}
 use mathlib.Core.Logic.{dite}
 use native.Mathlib.Decide.{dec_le}
@@ -49,7 +50,7 @@ module _ (z : LaneSizes) (s : State) (L : Lawful z s) (c : ℕ) where
         (λ below _. let inside = (next.there G.tail count).0 in let last = L.list.tail.lags (omega arith) (single G.tail count).1 in absurd (omega arith)) L.announced;
     told = L.told;
     pending = L.pending;
-    callers = λ d. caller_stable z (λ _. ⊥) (world s G) W rely d (s.callers d) (λ _ _ x. x) (record { linearized = refl; made = refl; drafts = drafts_same z (world s G) W refl refl refl d; unmade = (L.callers d).unmade }) (L.callers d);
+    callers = λ d. caller_stable z (λ _. ⊥) (world s G) W rely d (s.callers d) (λ _ _ x. x) (record { linearized = refl; made = refl; drafts = drafts_same z (world s G) W refl refl refl d; hazard = refl; held = refl }) (L.callers d);
   } where
     count : p.count ≡ z.first + G.tail
     count = ap (λ (q : Place). q.count) (sym is ∙ L.list.tail.named)
@@ -79,6 +80,7 @@ module _ (z : LaneSizes) (s : State) (L : Lawful z s) (c : ℕ) where
       value_own = λ _ _ _. refl;
       value_path = λ _ _ _. refl;
       anns = anns_same z (world s G) W refl refl refl refl refl refl refl;
+      holds = λ _ _ e. inl e;
       more = ([], sym (append-nil s.history));
     }
 

@@ -16,17 +16,16 @@ use Rattle.core_model.specs.declared.point.CallEnd.TheVariants as outcome
 use Rattle.core_model.specs.LaneSizes.{LaneSizes}
 use Rattle.core_model.specs.Notices.{place}
 use Rattle.core_model.specs.State.{State}
-use Rattle.core_model.specs.Help.{help_of}
+use Rattle.core_model.specs.Help.{own_help}
 use Rattle.core_model.specs.Step.{next}
-use Rattle.core_model.specs.declared.point.Back.TheVariants as back
-use Rattle.core_model.specs.Start.{start, opening}
+use Rattle.core_model.specs.Start.{start, opening, newcomer, draft_of}
 
 -- two callers with two item rows each
 abbrev two : LaneSizes
-two = record { callers = 2; first = 5; allowance = 10; rows = 5; items = 2; first_row = λ c. 1 + c * 2; home = λ r. (r - 1) / 2 }
+two = record { callers = 2; first = 5; allowance = 10; rows = 5; items = 2; stoppers = 0; first_row = λ c. 1 + c * 2; home = λ r. (r - 1) / 2 }
 
 -- n steps of caller c; a caller that is idle makes none
-steps : LaneSizes → ℕ → ℕ → State → State
+unfoldable pub steps : LaneSizes → ℕ → ℕ → State → State
 steps z c zero s = s
 steps z c (suc n) s = steps z c n (next z s c)
 
@@ -64,60 +63,63 @@ full : let s : State = start two (steps two 0 5 (start two (steps two 0 5 (start
 unfolding steps next
 full = (refl, refl, refl)
 
--- A caller makes steps, n at most, until its next one links a chain.
-links_chain : Point → Bool
+-- A caller makes steps, n at most, until its next one is of this kind.
+unfoldable pub until : (Point → Bool) → LaneSizes → ℕ → ℕ → State → State
+until is z c zero s = s
+until is z c (suc n) s = cond (is (s.callers c).point) s (until is z c n (next z s c))
+
+unfoldable pub links_chain : Point → Bool
 links_chain (point.Help h (help.LinkChain p)) = true
 links_chain _ = false
-
-until_link : LaneSizes → ℕ → ℕ → State → State
-until_link z c zero s = s
-until_link z c (suc n) s = cond (links_chain (s.callers c).point) s (until_link z c n (next z s c))
 
 -- The batch Deq, Enq 5, Enq 6, Deq on the empty lane: it is announced, and its owner finishes it.
 abbrev four : List Op
 four = Deq ∷ Enq 5 ∷ Enq 6 ∷ Deq ∷ []
 
-abbrev batch_group : ℕ → ℕ → List Op → Group
+abbrev pub batch_group : ℕ → ℕ → List Op → Group
 batch_group c batch ops = record { caller = c; batch = batch; ops = ops }
 
-alone : let s : State = steps two 1 40 (start two (opening two) 1 four) in ((s.callers 1).point ≡ Idle) × ((s.callers 1).answers ≡ Empty ∷ Done ∷ Done ∷ Got 5 ∷ []) × (s.history ≡ batch_group 1 0 four ∷ []) × ((s.callers 1).mine ≡ batch_group 1 0 four ∷ []) × ((s.memory.head) ≡ Node (place 3 6)) × (s.memory.tail ≡ place 4 7)
+alone : let s : State = steps two 1 60 (start two (opening two) 1 four) in ((s.callers 1).point ≡ Idle) × ((s.callers 1).answers ≡ Empty ∷ Done ∷ Done ∷ Got 5 ∷ []) × (s.history ≡ batch_group 1 0 four ∷ []) × ((s.callers 1).mine ≡ batch_group 1 0 four ∷ []) × ((s.memory.head) ≡ Node (place 3 6)) × (s.memory.tail ≡ place 4 7)
 unfolding steps next excess_of
 alone = (refl, refl, refl, refl, refl, refl)
 
 -- The owner stops right after the install, and a dequeue of the other caller finishes its batch, and then gets 6.
 abbrev helping : State
-helping = steps two 0 40 (start two (steps two 1 15 (start two (opening two) 1 four)) 0 (Deq ∷ []))
+helping = steps two 0 60 (start two (steps two 1 16 (start two (opening two) 1 four)) 0 (Deq ∷ []))
 
-installed : ((steps two 1 15 (start two (opening two) 1 four)).callers 1).point ≡ point.Help (help_of 2 back.Own) help.LoadOldHead
+abbrev announced : Point
+announced = point.Help (own_help record { ann = 2; notice = record (draft_of two 1 newcomer four) { old_head = place 0 5 } }) help.StoreHazard
+
+installed : ((steps two 1 16 (start two (opening two) 1 four)).callers 1).point ≡ announced
 unfolding steps next excess_of
 installed = refl
 
-finished : (helping.history ≡ batch_group 1 0 four ∷ batch_group 0 0 (Deq ∷ []) ∷ []) × ((helping.callers 0).answers ≡ Got 6 ∷ []) × ((helping.callers 1).mine ≡ []) × ((helping.callers 1).point ≡ point.Help (help_of 2 back.Own) help.LoadOldHead)
+finished : (helping.history ≡ batch_group 1 0 four ∷ batch_group 0 0 (Deq ∷ []) ∷ []) × ((helping.callers 0).answers ≡ Got 6 ∷ []) × ((helping.callers 1).mine ≡ []) × ((helping.callers 1).point ≡ announced)
 unfolding steps next excess_of
 finished = (refl, refl, refl, refl)
 
 -- the owner's own steps then find the same answers
-reads : let s : State = steps two 1 40 helping in ((s.callers 1).point ≡ Idle) × ((s.callers 1).answers ≡ Empty ∷ Done ∷ Done ∷ Got 5 ∷ []) × (s.history ≡ helping.history) × ((s.callers 1).mine ≡ batch_group 1 0 four ∷ [])
+reads : let s : State = steps two 1 60 helping in ((s.callers 1).point ≡ Idle) × ((s.callers 1).answers ≡ Empty ∷ Done ∷ Done ∷ Got 5 ∷ []) × (s.history ≡ helping.history) × ((s.callers 1).mine ≡ batch_group 1 0 four ∷ [])
 unfolding steps next excess_of
 reads = (refl, refl, refl, refl)
 
 -- lanes with eight item rows for each caller
-abbrev wide : ℕ → LaneSizes
-wide callers = record { callers = callers; first = 0; allowance = 100; rows = 1 + callers * 8; items = 8; first_row = λ c. 1 + c * 8; home = λ r. (r - 1) / 8 }
+abbrev pub wide : ℕ → LaneSizes
+wide callers = record { callers = callers; first = 0; allowance = 100; rows = 1 + callers * 8; items = 8; stoppers = 0; first_row = λ c. 1 + c * 8; home = λ r. (r - 1) / 8 }
 
 -- caller 0 is about to link its chain
-abbrev ready : ℕ → State
-ready callers = until_link (wide callers) 0 60 (start (wide callers) (opening (wide callers)) 0 (Enq 5 ∷ Enq 6 ∷ Deq ∷ []))
+abbrev pub ready : ℕ → State
+ready callers = until links_chain (wide callers) 0 60 (start (wide callers) (opening (wide callers)) 0 (Enq 5 ∷ Enq 6 ∷ Deq ∷ []))
 
 -- caller 1 finishes the batch of caller 0, which is still unfinished there
 takes_over : let s : State = steps (wide 2) 1 60 (start (wide 2) (ready 2) 1 (Deq ∷ [])) in (s.history ≡ batch_group 0 0 (Enq 5 ∷ Enq 6 ∷ Deq ∷ []) ∷ batch_group 1 0 (Deq ∷ []) ∷ [])
     × ((s.callers 1).answers ≡ Got 6 ∷ []) × ((s.callers 0).point ≡ (((ready 2).callers 0).point)) × ((s.callers 0).mine ≡ [])
-unfolding steps until_link links_chain next excess_of
+unfolding steps until links_chain next excess_of
 takes_over = (refl, refl, refl, refl)
 
 -- the helper is about to link the chain too, and stops while the owner makes two batches more
 abbrev stopped : State
-stopped = until_link (wide 3) 1 60 (start (wide 3) (ready 3) 1 (Deq ∷ []))
+stopped = until links_chain (wide 3) 1 60 (start (wide 3) (ready 3) 1 (Deq ∷ []))
 
 abbrev batches : State
 batches = steps (wide 3) 0 60 (start (wide 3) (steps (wide 3) 0 60 (start (wide 3) (steps (wide 3) 0 60 stopped) 0 (Enq 7 ∷ Enq 8 ∷ []))) 0 (Enq 1 ∷ Deq ∷ Deq ∷ []))
@@ -126,25 +128,24 @@ abbrev late_history : List Group
 late_history = batch_group 0 0 (Enq 5 ∷ Enq 6 ∷ Deq ∷ []) ∷ batch_group 0 1 (Enq 7 ∷ Enq 8 ∷ []) ∷ batch_group 0 2 (Enq 1 ∷ Deq ∷ Deq ∷ []) ∷ []
 
 helper_waits : links_chain (stopped.callers 1).point ≡ true
-unfolding steps until_link links_chain next excess_of
+unfolding steps until links_chain next excess_of
 helper_waits = refl
 
 three_batches : (batches.history ≡ late_history) × (batches.memory.head ≡ Node (place 3 3)) × (batches.memory.tail ≡ place 5 5)
-unfolding steps until_link links_chain next excess_of
+unfolding steps until links_chain next excess_of
 three_batches = (refl, refl, refl)
 
 -- its exchange comes late and changes nothing,
 late : ((next (wide 3) batches 1).history ≡ late_history) × ((next (wide 3) batches 1).memory.head ≡ Node (place 3 3)) × ((next (wide 3) batches 1).memory.tail ≡ place 5 5)
-unfolding steps until_link links_chain next excess_of
+unfolding steps until links_chain next excess_of
 late = (refl, refl, refl)
 
 -- and its own dequeue gets 8
 late_dequeue : ((steps (wide 3) 1 60 batches).history ≡ late_history ++ batch_group 1 0 (Deq ∷ []) ∷ []) × (((steps (wide 3) 1 60 batches).callers 1).answers ≡ Got 8 ∷ [])
-unfolding steps until_link links_chain next excess_of
+unfolding steps until links_chain next excess_of
 late_dequeue = (refl, refl)
 
--- a third batch of a caller with two announcements ends with Full and makes no step, and so does one whose rows aren't there
-full_batches : let s : State = steps (wide 2) 0 60 (start (wide 2) (steps (wide 2) 0 60 (start (wide 2) (opening (wide 2)) 0 (Enq 1 ∷ Deq ∷ []))) 0 (Enq 2 ∷ Deq ∷ [])) in
-    (((start (wide 2) s 0 (Enq 3 ∷ Deq ∷ [])).callers 0).outcome ≡ Some outcome.Full) × (((start (wide 2) s 0 (Enq 3 ∷ Deq ∷ [])).callers 0).point ≡ Idle) × (((start two (opening two) 0 (Enq 1 ∷ Enq 2 ∷ Enq 3 ∷ [])).callers 0).outcome ≡ Some outcome.Full)
+-- a batch whose rows aren't there ends with Full, and makes no step
+full_batch : (((start two (opening two) 0 (Enq 1 ∷ Enq 2 ∷ Enq 3 ∷ [])).callers 0).outcome ≡ Some outcome.Full) × (((start two (opening two) 0 (Enq 1 ∷ Enq 2 ∷ Enq 3 ∷ [])).callers 0).point ≡ Idle)
 unfolding steps next excess_of
-full_batches = (refl, refl, refl)
+full_batch = (refl, refl)

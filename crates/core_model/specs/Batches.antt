@@ -1,5 +1,5 @@
 -- What a batch says in its announcement.
-use Rattle.std.specs.Prelude.{ℕ, ◌+◌, ◌*◌, ◌-◌, ◌/◌, List, length, count_by, nat_lt}
+use Rattle.std.specs.Prelude.{ℕ, ◌+◌, ◌-◌, ◌/◌, List, length, count_by, nat_lt, Bool, ◌&&◌, ◌==◌}
 use Rattle.bq_model.specs.declared.op.Op.{Op}
 use Rattle.bq_model.specs.declared.group.Group.{Group}
 use Rattle.excess_count.specs.Counts.{counts_of}
@@ -8,11 +8,9 @@ use Rattle.core_model.specs.declared.point.Notice.{Notice}
 use Rattle.core_model.specs.LaneSizes.{LaneSizes}
 use Rattle.core_model.specs.Stopper.{chain_rows}
 use Rattle.core_model.specs.Notices.{place, batch_number}
+use Rattle.excess_count.specs.Excess.{enqueue_count}
 
 -- each caller has as many announcements as there are callers
-abbrev pub own_ann : LaneSizes → ℕ → ℕ → ℕ
-own_ann z c i = c * z.callers + i
-
 abbrev pub owner_of : LaneSizes → ℕ → ℕ
 owner_of z a = a / z.callers
 
@@ -31,6 +29,10 @@ notice_of c batch first ops = record {
   order3 = order_word_of ops 3;
 }
 
--- how many of the groups have two operations or more
-abbrev pub many_count : List Group → ℕ
-many_count h = count_by (λ g. nat_lt 1 (length g.ops)) h
+-- two or more dequeues alone, which take a stopper
+abbrev pub is_alone : List Op → Bool
+is_alone ops = nat_lt 1 (length ops) && (enqueue_count ops == 0)
+
+-- how many of the groups are of dequeues alone
+abbrev pub alone_count : List Group → ℕ
+alone_count h = count_by (λ g. is_alone g.ops) h

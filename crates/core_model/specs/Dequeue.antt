@@ -41,7 +41,7 @@ act (MoveHead p n v) = Exchange Head (OfHead (Node p)) (OfHead (Node (behind p n
 
 abbrev pub after_head : HeadWord → Point
 after_head (Node p) = point.Dequeue (LoadLink p)
-after_head (Ann a n) = point.Help (help_of a back.Dequeue) help.LoadOldHead
+after_head (Ann a n) = point.Help (help_of a n back.Dequeue) help.StoreHazard
 
 -- it found this behind the dummy
 abbrev pub after_link : Place → LinkWord → Course

@@ -48,7 +48,7 @@ after_link p Shut = LoadTail
 
 abbrev pub after_head : Item → HeadWord → Point
 after_head x (Node p) = point.Enqueue x LoadTail
-after_head x (Ann a n) = point.Help (help_of a (back.Enqueue x)) help.LoadOldHead
+after_head x (Ann a n) = point.Help (help_of a n (back.Enqueue x)) help.StoreHazard
 
 abbrev pub course : Item → EnqueuePoint → Content → Course
 course x StoreValue found = GoesOn (point.Enqueue x LoadTail)

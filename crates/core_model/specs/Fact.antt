@@ -1,5 +1,5 @@
 -- The vocabulary of what a caller knows of the lane while it makes its steps. `Holds` says what each of these means.
-use Rattle.std.specs.Prelude.{ℕ, ◌-◌, Bool, false, List, [], ◌∷◌}
+use Rattle.std.specs.Prelude.{ℕ, ◌-◌, Bool, false, List, [], ◌∷◌, Option}
 use Rattle.bq_model.specs.declared.op.Op.{Op}
 use Rattle.bq_model.specs.declared.op.Answer.{Answer}
 use Rattle.bq_model.specs.declared.group.Group.{Group}
@@ -8,9 +8,9 @@ use Rattle.word_rows.specs.declared.location.AnnField.{AnnField}
 use Rattle.core_model.specs.declared.point.Item.{Item}
 use Rattle.core_model.specs.declared.point.Notice.{Notice}
 use Rattle.core_model.specs.declared.point.Draft.{Draft}
+use Rattle.core_model.specs.declared.point.Plan.{Plan}
 use Rattle.core_model.specs.declared.point.Help.{Help}
 use Rattle.core_model.specs.State.{Caller, Command}
-use Rattle.word_rows.specs.declared.location.AnnField.TheVariants.{OldTail}
 use Rattle.core_model.specs.Stopper.{chain_rows}
 
 pub data Fact : Type 0 where
@@ -44,30 +44,40 @@ pub data Fact : Type 0 where
   kept : Caller → Fact
   -- no command runs, and one that has ended has an end
   rests : Caller → Fact
-  -- the draft is that of the running batch
-  drafts : Command → Draft → Fact
+  -- this is what the running batch is to say
+  drafts : Command → Notice → Fact
   -- the rows that the draft names are the caller's and unlinked, with the first i values and the first j links stored
   fills : ℕ → ℕ → Notice → List Op → ℕ → ℕ → Fact
   -- the enqueue of this number is there, and has this row and this value
   enqueues : List Op → Notice → ℕ → ℕ → ℕ → Fact
   -- the row of this number is r, and another comes behind it, which is n
   goes_on : Notice → ℕ → ℕ → ℕ → Fact
-  -- the announcement isn't installed, and its fields that are stored before this one are those of the draft
+  -- nobody holds the own announcement, which isn't in HEAD; nor one that is chosen
+  is_spare : ℕ → Fact
+  spares : Option ℕ → Fact
+  -- The first e callers but this one hold no own announcement that isn't in the list. The caller e is another one.
+  scanned : ℕ → List ℕ → Fact
+  is_other : ℕ → Fact
+  -- the announcement was written and isn't installed, and its fields that are stored before this one are those of the draft
   written : Draft → AnnField → Fact
   head_written : Draft → Fact
-  -- the draft is that of dequeues alone, of which there is one
-  only_dequeues : Draft → Fact
+  -- this is of dequeues alone, of which there is one
+  only_dequeues : Notice → Fact
   -- While HEAD names this place, the values are those of the rows behind it. The row is the last of these, or the next one.
   has_walked : Place → List ℕ → ℕ → Fact
   is_walking : Place → List ℕ → ℕ → Fact
-  -- with so many more values, these are all that the dequeues of the draft want
-  to_walk : Draft → List ℕ → ℕ → Fact
+  -- with so many more values, these are all that the dequeues want
+  to_walk : Notice → List ℕ → ℕ → Fact
   -- of dequeues alone there are too few values before this tail, or enough; rows were linked behind this old tail
   too_few : Help → Place → Fact
   enough : Help → Place → Fact
   has_links : Help → Place → Fact
-  -- the announcement is installed, and the first n of the fields that a help loads are as it says
+  -- The announcement is installed, and held or own, and the first n of the fields that a help loads are as it says. At its
+  -- beginning a help knows that of an own announcement.
   reads : ℕ → Help → Fact
+  helps : Help → Fact
+  -- the own hazard word names this
+  hazard_is : ℕ → Fact
   -- the place is at or behind the dummy, as long as the announcement stands
   stands_at : ℕ → Place → Fact
   -- the row at this place has a link, once the announcement is decided by one
@@ -89,8 +99,8 @@ pub data Fact : Type 0 where
 
 -- what the owner of a batch knows that isn't installed, with its rows filled and the fields before f written
 abbrev pub batch_facts : Command → Draft → AnnField → List Fact
-batch_facts m d f = linearized_is false ∷ drafts m d ∷ fills m.taken m.stopped d.notice m.ops d.notice.counts.enqs (chain_rows d.notice.counts - 1) ∷ written d f ∷ []
+batch_facts m d f = linearized_is false ∷ drafts m d.notice ∷ fills m.taken m.stopped d.notice m.ops d.notice.counts.enqs (chain_rows d.notice.counts - 1) ∷ written d f ∷ []
 
 -- what that of dequeues alone knows before it writes its announcement
-abbrev pub many_facts : Command → Draft → List Fact
-many_facts m d = only_dequeues d ∷ batch_facts m d OldTail
+abbrev pub many_facts : Command → Plan → List Fact
+many_facts m d = only_dequeues d.notice ∷ linearized_is false ∷ drafts m d.notice ∷ fills m.taken m.stopped d.notice m.ops d.notice.counts.enqs (chain_rows d.notice.counts - 1) ∷ spares d.ann ∷ []

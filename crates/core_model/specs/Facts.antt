@@ -14,6 +14,9 @@ use Rattle.word_rows.specs.declared.location.AnnField.TheVariants as field
 use Rattle.core_model.specs.declared.point.Notice.{Notice}
 use Rattle.core_model.specs.declared.point.Draft.{Draft}
 use Rattle.core_model.specs.declared.point.Help.{Help}
+use Rattle.core_model.specs.declared.point.Back.{Back}
+use Rattle.core_model.specs.declared.point.Back.TheVariants as back
+use Rattle.core_model.specs.declared.point.Hold.TheVariants.{Free}
 use Rattle.core_model.specs.declared.point.Point.{Point}
 use Rattle.core_model.specs.declared.point.Point.TheVariants.{Idle}
 use Rattle.core_model.specs.declared.point.Point.TheVariants as point
@@ -21,18 +24,21 @@ use Rattle.core_model.specs.Functions.{run}
 use Rattle.core_model.specs.LaneSizes.{LaneSizes, item, IsItem, stopper}
 use Rattle.core_model.specs.Notices.{batch_number}
 use Rattle.excess_count.specs.Counts.{successes_of, counts_of}
-use Rattle.core_model.specs.Batches.{own_ann, owner_of}
-use Rattle.core_model.specs.State.{Caller, Command, command}
-use Rattle.core_model.specs.Fact.{Fact, owns, holds_item, unused_rows, linked, head_seen, tail_seen, tail_past, next_is, by_single, next_value, linearized_is, is_op, answered, since, kept, rests, drafts, fills, enqueues, goes_on, written, head_written, reads, stands_at, before_end, is_old_tail, old_tail_is, tail_over, gets_so_many, walks, takes_effect, has_read, is_reading, only_dequeues, has_walked, is_walking, to_walk, too_few, enough, has_links}
+use Rattle.node_guard.specs.Pick.{among}
+use Rattle.core_model.specs.Batches.{owner_of}
+use Rattle.core_model.specs.State.{Caller, Command, command, own_group}
+use Rattle.core_model.specs.Fact.{Fact, owns, holds_item, unused_rows, linked, head_seen, tail_seen, tail_past, next_is, by_single, next_value, linearized_is, is_op, answered, since, kept, rests, drafts, fills, enqueues, goes_on, written, head_written, reads, stands_at, before_end, is_old_tail, old_tail_is, tail_over, gets_so_many, walks, takes_effect, has_read, is_reading, only_dequeues, is_spare, spares, scanned, is_other, helps, hazard_is, has_walked, is_walking, to_walk, too_few, enough, has_links}
 use Rattle.core_model.specs.Help as helping
 use Rattle.core_model.specs.Enqueue as enqueue
 use Rattle.core_model.specs.Dequeue as dequeue
+use Rattle.core_model.specs.Fill as filling
 use Rattle.core_model.specs.Batch as batching
 use Rattle.core_model.specs.Many as dequeuing
 use Rattle.core_model.specs.Help.{before_it}
 use Rattle.core_model.specs.Stopper.{chain_rows, linked_rows}
 use Rattle.excess_count.specs.Excess.{excess_of}
 use Rattle.core_model.specs.Answer as answering
+use Rattle.core_model.specs.Step.{closing_answers}
 use Rattle.core_model.specs.Ghost.{Stage, unused, decided, World, positions, at, Unlinked, On, Installed}
 use Rattle.core_model.specs.Kept.{Stands, Kept}
 
@@ -96,16 +102,32 @@ pub record Fills (z : LaneSizes) (c : ℕ) (spot : ℕ → Option ℕ) (value : 
   pub joined : (l : ℕ) → l < rows → l < j → link (first + l) ≡ Single (suc (first + l))
   pub nil : (l : ℕ) → l < rows → j ≤ l → link (first + l) ≡ Nil
 
--- the draft is that of the running batch of caller c, of an announcement of the lane that is none of those that come next
-pub record IsDraft (z : LaneSizes) (c : ℕ) (m : Command) (d : Draft) : Type 0 where
+-- this is what the running batch of caller c is to say
+pub record IsDraft (z : LaneSizes) (c : ℕ) (m : Command) (n : Notice) : Type 0 where
   pub known : c < z.callers
-  pub describes : Describes c m d.notice
+  pub describes : Describes c m n
   pub some : 0 < length m.ops
-  pub last : suc d.notice.last ≡ d.notice.first + chain_rows d.notice.counts
-  pub taken : (i : ℕ) → m.made ≤ i → own_ann z c i ≢ d.ann
-  pub inside : d.ann < z.callers * z.callers
+  pub last : suc n.last ≡ n.first + chain_rows n.counts
 
--- The announcement of the draft is of caller c and not installed, and its fields before f are written.
+-- The announcement is of caller c and not in HEAD, and nobody holds it.
+pub record IsSpare (z : LaneSizes) (ann : Option ℕ) (held : ℕ → Option ℕ) (c a : ℕ) : Type 0 where
+  pub owner : owner_of z a ≡ c
+  pub apart : (x : ℕ) → ann ≡ Some x → x ≢ a
+  pub unheld : (e : ℕ) → held e ≢ Some a
+
+abbrev pub Spares : LaneSizes → Option ℕ → (ℕ → Option ℕ) → ℕ → Option ℕ → Type 0
+Spares z ann held c None = Unit {0}
+Spares z ann held c (Some a) = IsSpare z ann held c a
+
+-- Caller c has read the hazard words of the first e callers but its own, and found these named. No announcement of it is in
+-- HEAD, and each that any of those callers holds is among these.
+pub record Scanned (z : LaneSizes) (ann : Option ℕ) (held : ℕ → Option ℕ) (c e : ℕ) (named : List ℕ) : Type 0 where
+  pub few : length named ≤ e
+  pub fewer : c < e → length named < e
+  pub plain : (a : ℕ) → ann ≡ Some a → owner_of z a ≢ c
+  pub unheld : (d a : ℕ) → d < e → d ≢ c → owner_of z a ≡ c → among named a ≡ false → held d ≢ Some a
+
+-- The announcement of the draft is of caller c and not installed since it was chosen, and its fields before f are written.
 pub record Written (z : LaneSizes) (c : ℕ) (stage : Stage) (tail : Option Place) (said : Notice) (d : Draft) (f : AnnField) : Type 0 where
   pub fresh : stage ≡ unused
   pub owner : owner_of z d.ann ≡ c
@@ -136,24 +158,33 @@ pub record Linearized (z : LaneSizes) (w : World) (a i n : ℕ) (g : Group) : Ty
   pub values : take (successes_of (w.memory.notice a).counts (i - dummy)) (values_from (last_queue pre) g.ops) ≡ run (λ j. w.memory.value (w.ghost.path j)) (suc dummy) (successes_of (w.memory.notice a).counts (i - dummy))
   pub rows : (x : ℕ) → x ≤ successes_of (w.memory.notice a).counts (i - dummy) → On w (dummy + x) (w.ghost.path (dummy + x))
 
+-- a caller that helps its own announcement
+abbrev pub IsOwn : Back → Type 0
+IsOwn back.Own = Unit {0}
+IsOwn _ = ⊥
+
 -- what caller c, which keeps k, knows at any point of its call, and besides at this one
 abbrev pub call_knows : ℕ → Caller → Point → List Fact
 call_knows c k Idle = linearized_is false ∷ []
 call_knows c k (point.Enqueue x p) = enqueue.call_knows c k x p
 call_knows c k (point.Dequeue p) = dequeue.call_knows (command k)
+call_knows c k (point.Fill n p) = filling.call_knows (command k) n
 call_knows c k (point.Batch d p) = batching.call_knows (command k) d
 call_knows c k (point.Many d p) = dequeuing.call_knows (command k) d
 call_knows c k (point.Help h p) = helping.call_knows c (command k) h p
 call_knows c k (point.Answer p) = answering.call_knows
+call_knows c k (point.Clear x) = linearized_is true ∷ []
 
 abbrev pub knows : ℕ → Caller → Point → List Fact
 knows c k Idle = rests k ∷ []
 knows c k (point.Enqueue x p) = enqueue.knows p
 knows c k (point.Dequeue p) = dequeue.knows p
-knows c k (point.Batch d p) = batching.knows (command k) d p
+knows c k (point.Fill n p) = filling.knows k.named (command k) n p
+knows c k (point.Batch d p) = batching.knows d p
 knows c k (point.Many d p) = dequeuing.knows k.values d p
 knows c k (point.Help h p) = helping.knows h p
 knows c k (point.Answer p) = answering.knows c k p
+knows c k (point.Clear x) = answered k.started_at (own_group c k) (closing_answers k.ops k.values x) ∷ []
 
 -- the enqueue of this number is there, and has this row and this value
 pub record Enqueues (ops : List Op) (s : Notice) (i r v : ℕ) : Type 0 where
@@ -168,18 +199,20 @@ pub record Chains (s : Notice) (i r n : ℕ) : Type 0 where
   pub next : n ≡ suc r
 
 module _ (z : LaneSizes) (w : World) where
-  -- the announcement is installed, and the first n of the fields that a help loads are as it says
-  pub record Reads (n : ℕ) (h : Help) : Type 0 where
+  -- the announcement is installed, and held by caller c or its own, and the first n of the fields that a help loads are as it says
+  pub record Reads (c n : ℕ) (h : Help) : Type 0 where
     pub installed : Installed w h.ann
+    pub kept : (w.ghost.held c ≡ Some h.ann) ⊎ (owner_of z h.ann ≡ c)
     pub inside : h.ann < z.callers * z.callers
     pub old_head : 0 < n → (w.memory.notice h.ann).old_head ≡ h.old_head
     pub first : 1 < n → (w.memory.notice h.ann).first ≡ h.first
     pub last : 2 < n → (w.memory.notice h.ann).last ≡ h.last
     pub counts : 3 < n → (w.memory.notice h.ann).counts ≡ h.counts
 
-  -- Of the batch of the group g, on m values, these values are read. The row r is the last one read, with l to come.
-  pub record HasRead (n : ℕ) (g : Group) (m : ℕ) (vs : List ℕ) (l r : ℕ) : Type 0 where
+  -- Of the batch of the group g of caller c, on m values, these values are read. The row r is the last one read, with l to come.
+  pub record HasRead (c n : ℕ) (g : Group) (m : ℕ) (vs : List ℕ) (l r : ℕ) : Type 0 where
     pub ann : ℕ
+    pub owner : owner_of z ann ≡ c
     pub position : ℕ
     pub is_decided : w.ghost.stage ann ≡ decided position
     pub linearized : Linearized z w ann position n g
@@ -190,8 +223,9 @@ module _ (z : LaneSizes) (w : World) where
     pub values : vs ≡ run (λ j. w.memory.value (w.ghost.path j)) (suc linearized.dummy) read
 
   -- the same where the row r is the next one, with l behind it
-  pub record IsReading (n : ℕ) (g : Group) (m : ℕ) (vs : List ℕ) (l r : ℕ) : Type 0 where
+  pub record IsReading (c n : ℕ) (g : Group) (m : ℕ) (vs : List ℕ) (l r : ℕ) : Type 0 where
     pub ann : ℕ
+    pub owner : owner_of z ann ≡ c
     pub position : ℕ
     pub is_decided : w.ghost.stage ann ≡ decided position
     pub linearized : Linearized z w ann position n g
@@ -289,7 +323,7 @@ module _ (z : LaneSizes) where
     abbrev pub Holds : Fact → Type 0
     Holds (owns n m r) = Owns r × NotToCome z c n m r × IsItem z r
     Holds (holds_item x) = Owns x.row × (w.memory.value x.row ≡ x.value)
-    Holds (unused_rows n m) = ((i : ℕ) → n ≤ i → i < z.items → c < z.callers → Owns (item z c i)) × ((i : ℕ) → m ≤ i → i < z.callers → c < z.callers → Owns (stopper z c i))
+    Holds (unused_rows n m) = ((i : ℕ) → n ≤ i → i < z.items → c < z.callers → Owns (item z c i)) × ((i : ℕ) → m ≤ i → i < z.stoppers → c < z.callers → Owns (stopper z c i))
     Holds (linked p) = Linked z w p
     Holds (head_seen p) = p.count ≤ z.first + w.ghost.head
     Holds (tail_seen p) = p.count ≤ z.first + w.ghost.tail
@@ -298,26 +332,32 @@ module _ (z : LaneSizes) where
     Holds (by_single p) = (i : ℕ) → p.count ≡ z.first + i → (suc i < positions w.ghost) × (w.ghost.chained i ≡ false)
     Holds (next_value p v) = (p.count ≤ z.first + w.ghost.head)
         × (p.count ≡ z.first + w.ghost.head → (0 < w.ghost.rest) × (w.memory.value (w.ghost.path (suc w.ghost.head)) ≡ v))
-    Holds (linearized_is b) = (w.ghost.linearized c ≡ b) × ((a : ℕ) → w.ghost.ann ≡ Some a → owner_of z a ≢ c)
+    Holds (linearized_is b) = (w.ghost.linearized c ≡ b) × ((a : ℕ) → w.ghost.ann ≡ Some a → owner_of z a ≢ c) × (b ≡ false → (a : ℕ) → w.ghost.held c ≡ Some a → owner_of z a ≢ c)
     Holds (is_op ops op) = (ops ≡ op ∷ []) × (c < z.callers)
     Holds (answered n g xs) = (s : Stands w.history g xs) × (n ≤ length s.before)
     Holds (since n) = n ≤ length w.history
     Holds (kept k) = Kept w.history c k
-    Holds (rests k) = (k.ops ≡ []) × (k.outcome ≢ None → IsSome k.ended_at)
-    Holds (drafts m d) = IsDraft z c m d
+    Holds (rests k) = (k.ops ≡ []) × (k.outcome ≢ None → IsSome k.ended_at) × (k.hold ≡ Free)
+    Holds (drafts m n) = IsDraft z c m n
+    Holds (is_spare a) = IsSpare z w.ghost.ann w.ghost.held c a
+    Holds (spares x) = Spares z w.ghost.ann w.ghost.held c x
+    Holds (scanned e xs) = Scanned z w.ghost.ann w.ghost.held c e xs
+    Holds (is_other e) = (e < z.callers) × (e ≢ c)
     Holds (fills n m s ops i j) = Fills z c w.ghost.spot w.memory.value w.memory.link n m s.first (chain_rows s.counts) s.counts.enqs ops i j
     Holds (enqueues ops s i r v) = Enqueues ops s i r v
     Holds (goes_on s i r n) = Chains s i r n
     Holds (written d f) = Written z c (w.ghost.stage d.ann) (w.memory.old_tail d.ann) (w.memory.notice d.ann) d f
     Holds (head_written d) = HeadWritten z c (w.ghost.stage d.ann) (w.memory.notice d.ann) d
-    Holds (only_dequeues d) = (d.notice.counts.enqs ≡ 0) × (0 < d.notice.counts.deqs)
+    Holds (only_dequeues n) = (n.counts.enqs ≡ 0) × (0 < n.counts.deqs)
     Holds (has_walked p vs r) = HasWalked z w p vs r
     Holds (is_walking p vs r) = IsWalking z w p vs r
-    Holds (to_walk d vs l) = length vs + l ≡ d.notice.counts.deqs
+    Holds (to_walk n vs l) = length vs + l ≡ n.counts.deqs
     Holds (too_few h p) = h.counts.enqs ≡ 0 → before_it h p < h.counts.deqs
     Holds (enough h p) = (h.counts.enqs ≡ 0) × (h.counts.deqs ≤ before_it h p)
     Holds (has_links h q) = 0 < linked_rows h.counts (before_it h q)
-    Holds (reads n h) = Reads z w n h
+    Holds (reads n h) = Reads z w c n h
+    Holds (helps h) = IsOwn h.back → Reads z w c 4 h × (owner_of z h.ann ≡ c)
+    Holds (hazard_is a) = w.memory.ann_hazard c ≡ Some a
     Holds (stands_at a p) = Installed w a × (w.ghost.ann ≡ Some a → z.first + w.ghost.head ≤ p.count)
     Holds (before_end a p) = Installed w a × ((i : ℕ) → p.count ≡ z.first + i → (i < positions w.ghost) × ((j : ℕ) → w.ghost.stage a ≡ decided j → 0 < w.ghost.span a → suc i < positions w.ghost))
     Holds (is_old_tail a p) = Installed w a × (w.ghost.ann ≡ Some a → IsDecidedBehind z w a p)
@@ -326,8 +366,8 @@ module _ (z : LaneSizes) where
     Holds (gets_so_many h m) = Gets z w h m
     Holds (walks a r l) = Walks z w a r l
     Holds (takes_effect a n g) = TakesEffect z w c a n g
-    Holds (has_read n g m vs l r) = HasRead z w n g m vs l r
-    Holds (is_reading n g m vs l r) = IsReading z w n g m vs l r
+    Holds (has_read n g m vs l r) = HasRead z w c n g m vs l r
+    Holds (is_reading n g m vs l r) = IsReading z w c n g m vs l r
 
     abbrev pub Each : List Fact → Type 0
     Each [] = Unit {0}

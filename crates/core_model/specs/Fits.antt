@@ -1,10 +1,10 @@
 -- What of a lane `word_rows` can code: what a caller keeps, and what its step does with a word.
-use Rattle.std.specs.Prelude.{◌<◌, ◌^◌}
+use Rattle.std.specs.Prelude.{ℕ, ◌<◌, ◌^◌, Option, Some, None}
 use Rattle.bq_model.specs.declared.shape.Shape.{Shape}
 use Rattle.word_rows.specs.declared.head_word.HeadWord.TheVariants.{Node}
 use Rattle.word_rows.specs.declared.location.AnnField.TheVariants.{OldHead}
 use Rattle.word_rows.specs.declared.location.Location.{Location}
-use Rattle.word_rows.specs.declared.location.Location.TheVariants.{Mark, NodeHazard, AnnHazard, AnnWord}
+use Rattle.word_rows.specs.declared.location.Location.TheVariants.{Mark, NodeHazard, AnnWord}
 use Rattle.word_rows.specs.declared.content.Content.{Content}
 use Rattle.word_rows.specs.declared.content.Content.TheVariants.{OfHead}
 use Rattle.word_rows.specs.Contents.{IsOfKind, MayHold}
@@ -15,17 +15,17 @@ use Rattle.core_model.specs.declared.act.Act.TheVariants.{Load, Store, Exchange}
 use Rattle.core_model.specs.declared.point.Item.{Item}
 use Rattle.core_model.specs.declared.point.Notice.{Notice}
 use Rattle.core_model.specs.declared.point.Draft.{Draft}
+use Rattle.core_model.specs.declared.point.Plan.{Plan}
 use Rattle.core_model.specs.declared.point.Back.{Back}
 use Rattle.core_model.specs.declared.point.Back.TheVariants as back
 use Rattle.core_model.specs.declared.point.Help.{Help}
 
--- A content that a step can store into the word. OldHead names a node; no step stores into marks and hazards yet.
+-- A content that a step can store into the word. OldHead names a node; no step stores into marks and NODE_HAZARD words yet.
 abbrev pub IsHeld : Location → Content → Type 0
 IsHeld (AnnWord a OldHead) (OfHead (Node p)) = Unit {0}
 IsHeld (AnnWord a OldHead) _ = ⊥
 IsHeld (Mark r) x = ⊥
 IsHeld (NodeHazard c) x = ⊥
-IsHeld (AnnHazard c) x = ⊥
 IsHeld l x = IsOfKind l x
 
 module _ (s : Shape) where
@@ -47,12 +47,20 @@ module _ (s : Shape) where
   abbrev pub DraftFits : Draft → Type 0
   DraftFits d = (d.ann < anns_of s) × NoticeFits d.notice
 
+  -- the chosen announcement is one of the lane
+  abbrev pub ChosenFits : Option ℕ → Type 0
+  ChosenFits None = Unit {0}
+  ChosenFits (Some a) = a < anns_of s
+
+  abbrev pub PlanFits : Plan → Type 0
+  PlanFits d = ChosenFits d.ann × NoticeFits d.notice
+
   abbrev pub BackFits : Back → Type 0
   BackFits back.Own = Unit {0}
   BackFits (back.Enqueue x) = ItemFits x
   BackFits back.Dequeue = Unit {0}
   BackFits (back.Batch d) = DraftFits d
-  BackFits (back.Many d) = DraftFits d
+  BackFits (back.Many d) = PlanFits d
 
   pub record HelpFits (h : Help) : Type 0 where
     pub ann : h.ann < anns_of s

@@ -9,7 +9,7 @@ use Rattle.core_model.specs.State.{Memory}
 
 -- How far an announcement is.
 pub data Stage : Type 0 where
-  -- it was never installed
+  -- it wasn't installed since it was chosen last, or never
   unused : Stage
   -- it stands in HEAD, and its rows aren't linked
   waiting : Stage
@@ -40,6 +40,8 @@ pub record Ghost : Type 0 where
   pub chain : ℕ → ℕ
   -- the announcement whose rows were linked behind a position
   pub cause : ℕ → ℕ
+  -- the announcement that a caller holds
+  pub held : ℕ → Option ℕ
 
 -- how many positions there are
 abbrev pub positions : Ghost → ℕ

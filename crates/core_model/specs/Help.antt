@@ -1,26 +1,29 @@
--- A help: it reads the announcement in HEAD, links its chain or its stopper where it has one to link, records its old tail,
+-- A help: it names the announcement in its hazard word, and where that still stands in HEAD, it reads the announcement, links its chain or its stopper where it has one to link, records its old tail,
 -- and moves TAIL and HEAD.
 use Rattle.std.specs.Prelude.{◌<◌, ℕ, zero, suc, ◌-◌, ◌==◌, nat_lt, cond, List, [], ◌∷◌, length, Option, Some, None, false, ◌&&◌, nat_le, Bool}
 use Rattle.bq_model.specs.declared.op.Op.TheVariants.{Enq, Deq}
 use Rattle.word_rows.specs.declared.place.Place.{Place}
+use Rattle.word_rows.specs.declared.head_word.HeadWord.{HeadWord}
 use Rattle.word_rows.specs.declared.head_word.HeadWord.TheVariants.{Node, Ann}
 use Rattle.word_rows.specs.declared.link_word.LinkWord.{LinkWord}
 use Rattle.word_rows.specs.declared.link_word.LinkWord.TheVariants.{Nil, Single, Chain, Shut}
 use Rattle.word_rows.specs.declared.location.AnnField.TheVariants as field
-use Rattle.word_rows.specs.declared.location.Location.TheVariants.{Head, Tail, Link, AnnWord}
+use Rattle.word_rows.specs.declared.location.Location.TheVariants.{Head, Tail, Link, AnnHazard, AnnWord}
 use Rattle.word_rows.specs.declared.content.Content.{Content}
-use Rattle.word_rows.specs.declared.content.Content.TheVariants.{OfHead, OfTail, OfLink, OfOldTail}
+use Rattle.word_rows.specs.declared.content.Content.TheVariants.{OfHead, OfTail, OfLink, OfAnnHazard, OfOldTail}
 use Rattle.core_model.specs.declared.act.Act.{Act}
-use Rattle.core_model.specs.declared.act.Act.TheVariants.{Load, Exchange}
+use Rattle.core_model.specs.declared.act.Act.TheVariants.{Load, Store, Exchange}
 use Rattle.core_model.specs.declared.course.Course.{Course}
-use Rattle.core_model.specs.declared.course.Course.TheVariants.{GoesOn}
+use Rattle.core_model.specs.declared.course.Course.TheVariants.{GoesOn, Guards}
 use Rattle.core_model.specs.declared.kind.StepKind.{StepKind}
 use Rattle.core_model.specs.declared.kind.StepKind.TheVariants as kind
 use Rattle.core_model.specs.declared.point.Back.{Back}
 use Rattle.core_model.specs.declared.point.Back.TheVariants as back
 use Rattle.core_model.specs.declared.point.Help.{Help}
+use Rattle.core_model.specs.declared.point.Draft.{Draft}
+use Rattle.core_model.specs.declared.point.Hold.TheVariants.{Names, Held}
 use Rattle.core_model.specs.declared.point.HelpPoint.{HelpPoint}
-use Rattle.core_model.specs.declared.point.HelpPoint.TheVariants.{LoadOldHead, LoadFirst, LoadLast, LoadCounts, LoadTail, LoadOldTail, LoadLink, LinkChain, Decide, PassTail, RecordTail, LoadTailOver, MoveTailOver, LoadWalk, MoveHead}
+use Rattle.core_model.specs.declared.point.HelpPoint.TheVariants.{StoreHazard, LoadHead, LoadOldHead, LoadFirst, LoadLast, LoadCounts, LoadTail, LoadOldTail, LoadLink, LinkChain, Decide, PassTail, RecordTail, LoadTailOver, MoveTailOver, LoadWalk, MoveHead}
 use Rattle.core_model.specs.declared.point.EnqueuePoint.TheVariants as enq
 use Rattle.core_model.specs.declared.point.DequeuePoint.TheVariants as deq
 use Rattle.core_model.specs.declared.point.BatchPoint.TheVariants as batch
@@ -30,38 +33,45 @@ use Rattle.core_model.specs.declared.point.Point.{Point}
 use Rattle.core_model.specs.declared.point.Point.TheVariants as point
 use Rattle.core_model.specs.Notices.{place, batch_counts, dummy_in, chain_end_in, counts_in}
 use Rattle.excess_count.specs.Counts.{successes_of}
-use Rattle.core_model.specs.State.{Command, tail_in, link_in, old_tail_in}
-use Rattle.core_model.specs.Act.{same_place, far_behind, by_one}
-use Rattle.core_model.specs.Fact.{Fact, owns, holds_item, linked, tail_seen, next_is, by_single, linearized_is, is_op, reads, stands_at, before_end, is_old_tail, old_tail_is, tail_over, gets_so_many, walks, takes_effect, batch_facts, too_few, enough, has_links, many_facts}
+use Rattle.core_model.specs.State.{Command, head_in, tail_in, link_in, old_tail_in}
+use Rattle.core_model.specs.Act.{same_place, is_ann, far_behind, by_one}
+use Rattle.core_model.specs.Fact.{Fact, owns, holds_item, linked, tail_seen, next_is, by_single, linearized_is, is_op, reads, helps, hazard_is, stands_at, before_end, is_old_tail, old_tail_is, tail_over, gets_so_many, walks, takes_effect, batch_facts, too_few, enough, has_links, many_facts}
 use Rattle.bq_model.specs.declared.shape.Shape.{Shape}
 use Rattle.word_rows.specs.Fits.{limits_of, PlaceFits}
 use Rattle.word_rows.specs.Sizes.{rows_of}
 use Rattle.core_model.specs.Stopper.{is_stopped, linked_rows}
 
--- the help of an announcement of which nothing is read yet
-abbrev pub help_of : ℕ → Back → Help
-help_of a b = record { ann = a; old_head = place 0 0; first = 0; last = 0; counts = batch_counts 0 0 0; back = b }
+-- the help of an announcement that was found in HEAD with this count, and of which nothing is read yet
+abbrev pub help_of : ℕ → ℕ → Back → Help
+help_of a n b = record { ann = a; old_head = place 0 n; first = 0; last = 0; counts = batch_counts 0 0 0; back = b }
+
+-- that of the own one, as it was written
+abbrev pub own_help : Draft → Help
+own_help d = record { ann = d.ann; old_head = d.notice.old_head; first = d.notice.first; last = d.notice.last; counts = d.notice.counts; back = back.Own }
 
 -- how many values are queued before the batch, by its old tail
 abbrev pub before_it : Help → Place → ℕ
 before_it h q = q.count - h.old_head.count
 
-abbrev pub act : Help → HelpPoint → Act
-act h LoadOldHead = Load (AnnWord h.ann field.OldHead)
-act h LoadFirst = Load (AnnWord h.ann field.First)
-act h LoadLast = Load (AnnWord h.ann field.Last)
-act h LoadCounts = Load (AnnWord h.ann field.Counts)
-act h LoadTail = Load Tail
-act h (LoadOldTail p) = Load (AnnWord h.ann field.OldTail)
-act h (LoadLink p) = Load (Link p.row)
-act h (LinkChain p) = Exchange (Link p.row) (OfLink Nil) (OfLink (Chain h.first))
-act h (Decide p) = Exchange (AnnWord h.ann field.OldTail) (OfOldTail None) (OfOldTail (Some p))
-act h (PassTail p n) = by_one p n
-act h (RecordTail p) = Exchange (AnnWord h.ann field.OldTail) (OfOldTail None) (OfOldTail (Some p))
-act h (LoadTailOver q) = Load Tail
-act h (MoveTailOver q) = Exchange Tail (OfTail q) (OfTail (far_behind q h.last (linked_rows h.counts (before_it h q))))
-act h (LoadWalk n r l) = Load (Link r)
-act h (MoveHead n r) = Exchange Head (OfHead (Ann h.ann h.old_head.count)) (OfHead (Node (far_behind h.old_head r n)))
+-- what caller c does at this step
+abbrev pub act : ℕ → Help → HelpPoint → Act
+act c h StoreHazard = Store (AnnHazard c) (OfAnnHazard (Some h.ann))
+act c h LoadHead = Load Head
+act c h LoadOldHead = Load (AnnWord h.ann field.OldHead)
+act c h LoadFirst = Load (AnnWord h.ann field.First)
+act c h LoadLast = Load (AnnWord h.ann field.Last)
+act c h LoadCounts = Load (AnnWord h.ann field.Counts)
+act c h LoadTail = Load Tail
+act c h (LoadOldTail p) = Load (AnnWord h.ann field.OldTail)
+act c h (LoadLink p) = Load (Link p.row)
+act c h (LinkChain p) = Exchange (Link p.row) (OfLink Nil) (OfLink (Chain h.first))
+act c h (Decide p) = Exchange (AnnWord h.ann field.OldTail) (OfOldTail None) (OfOldTail (Some p))
+act c h (PassTail p n) = by_one p n
+act c h (RecordTail p) = Exchange (AnnWord h.ann field.OldTail) (OfOldTail None) (OfOldTail (Some p))
+act c h (LoadTailOver q) = Load Tail
+act c h (MoveTailOver q) = Exchange Tail (OfTail q) (OfTail (far_behind q h.last (linked_rows h.counts (before_it h q))))
+act c h (LoadWalk n r l) = Load (Link r)
+act c h (MoveHead n r) = Exchange Head (OfHead (Ann h.ann h.old_head.count)) (OfHead (Node (far_behind h.old_head r n)))
 
 abbrev pub after_link : Help → Place → LinkWord → HelpPoint
 after_link h p Nil = LinkChain p
@@ -114,7 +124,13 @@ after_walk h n l (Single r) = point.Help h (walk_on n r l)
 after_walk h n l (Chain r) = point.Help h (walk_on n r l)
 after_walk h n l Shut = back_point h h.back
 
+-- it has found this head as it loaded that a second time
+abbrev pub after_head : Help → HeadWord → Course
+after_head h x = cond (is_ann x h.ann h.old_head.count) (Guards (point.Help h LoadOldHead) (Held h.ann)) (GoesOn (back_point h h.back))
+
 abbrev pub course : Help → HelpPoint → Content → Course
+course h StoreHazard x = Guards (point.Help h LoadHead) (Names h.ann)
+course h LoadHead x = after_head h (head_in x)
 course h LoadOldHead x = GoesOn (point.Help (record h { old_head = dummy_in x }) LoadFirst)
 course h LoadFirst x = GoesOn (point.Help (record h { first = chain_end_in x }) LoadLast)
 course h LoadLast x = GoesOn (point.Help (record h { last = chain_end_in x }) LoadCounts)
@@ -132,6 +148,8 @@ course h (LoadWalk m r l) x = GoesOn (after_walk h m l (link_in x))
 course h (MoveHead m r) x = GoesOn (back_point h h.back)
 
 abbrev pub kind_of : Help → HelpPoint → StepKind
+kind_of h StoreHazard = kind.StoreAnnHazard
+kind_of h LoadHead = kind.LoadHead
 kind_of h LoadOldHead = kind.LoadAnn
 kind_of h LoadFirst = kind.LoadAnn
 kind_of h LoadLast = kind.LoadAnn
@@ -156,7 +174,7 @@ back_facts c m a back.Dequeue = linearized_is false ∷ is_op m.ops Deq ∷ []
 back_facts c m a (back.Batch d) = batch_facts m d field.OldHead
 back_facts c m a (back.Many d) = many_facts m d
 
--- how many fields it has loaded
+-- how many fields it has loaded; and what it knows of the announcement by them
 abbrev pub loaded : HelpPoint → ℕ
 loaded LoadOldHead = 0
 loaded LoadFirst = 1
@@ -164,11 +182,17 @@ loaded LoadLast = 2
 loaded LoadCounts = 3
 loaded _ = 4
 
+abbrev pub known_by : Help → HelpPoint → Fact
+known_by h StoreHazard = helps h
+known_by h LoadHead = helps h
+known_by h p = reads (loaded p) h
+
 -- what it knows of the announcement and of its command, and besides at each of its steps
 abbrev pub call_knows : ℕ → Command → Help → HelpPoint → List Fact
-call_knows c m h p = reads (loaded p) h ∷ back_facts c m h.ann h.back
+call_knows c m h p = known_by h p ∷ back_facts c m h.ann h.back
 
 abbrev pub knows : Help → HelpPoint → List Fact
+knows h LoadHead = hazard_is h.ann ∷ []
 knows h (LoadOldTail p) = linked p ∷ tail_seen p ∷ stands_at h.ann p ∷ []
 knows h (LoadLink p) = linked p ∷ tail_seen p ∷ stands_at h.ann p ∷ before_end h.ann p ∷ too_few h p ∷ []
 knows h (LinkChain p) = linked p ∷ tail_seen p ∷ stands_at h.ann p ∷ before_end h.ann p ∷ too_few h p ∷ []

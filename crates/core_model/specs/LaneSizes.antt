@@ -1,7 +1,7 @@
 -- The sizes of a lane, and who takes which row.
 use Rattle.std.specs.Prelude.{◌≡◌, ℕ, ◌+◌, ◌*◌, ◌-◌, ◌/◌, ◌<◌}
 use Rattle.bq_model.specs.declared.shape.Shape.{Shape}
-use Rattle.word_rows.specs.Sizes.{rows_of, items_of, own_rows_of}
+use Rattle.word_rows.specs.Sizes.{rows_of, items_of, stoppers_of, own_rows_of}
 
 pub record LaneSizes : Type 0 where
   pub callers : ℕ
@@ -9,9 +9,10 @@ pub record LaneSizes : Type 0 where
   pub first : ℕ
   -- the most operations of a caller
   pub allowance : ℕ
-  -- how many rows there are, and how many of them are item rows of one caller
+  -- how many rows there are, and how many of them are item rows and stopper rows of one caller
   pub rows : ℕ
   pub items : ℕ
+  pub stoppers : ℕ
   -- the first item row of a caller, and whose row a row is (row 0 is nobody's, and never taken)
   pub first_row : ℕ → ℕ
   pub home : ℕ → ℕ
@@ -35,6 +36,7 @@ lane_sizes s = record {
   allowance = s.allowance;
   rows = rows_of s;
   items = items_of s;
+  stoppers = stoppers_of s;
   first_row = λ c. 1 + c * own_rows_of s;
   home = λ r. (r - 1) / own_rows_of s;
 }

@@ -13,18 +13,18 @@ use Rattle.word_rows.specs.declared.head_word.HeadWord.TheVariants.{Node, Ann}
 use Rattle.word_rows.specs.declared.link_word.LinkWord.{LinkWord}
 use Rattle.word_rows.specs.declared.link_word.LinkWord.TheVariants.{Nil, Single, Chain}
 use Rattle.core_model.specs.declared.point.Notice.{Notice}
-use Rattle.core_model.specs.declared.point.Back.{Back}
-use Rattle.core_model.specs.declared.point.Back.TheVariants as back
 use Rattle.core_model.specs.declared.point.Point.{Point}
 use Rattle.core_model.specs.declared.point.Point.TheVariants as point
 use Rattle.core_model.specs.Functions.{run}
 use Rattle.core_model.specs.LaneSizes.{LaneSizes, IsItem}
 use Rattle.core_model.specs.Stopper.{chain_rows, linked_rows, passes}
-use Rattle.core_model.specs.Batches.{own_ann, owner_of, many_count}
+use Rattle.core_model.specs.Batches.{owner_of, alone_count}
 use Rattle.core_model.specs.State.{Memory, Caller, State, command, own_group}
-use Rattle.core_model.specs.Start.{anns_taken}
 use Rattle.core_model.specs.Ghost.{Stage, unused, waiting, decided, Ghost, World, joint, at}
-use Rattle.core_model.specs.Facts.{Describes, NotToCome, Knows}
+use Rattle.core_model.specs.Facts.{Describes, NotToCome, Knows, IsOwn}
+use Rattle.core_model.specs.declared.point.Hold.{Hold}
+use Rattle.core_model.specs.Start.{stoppers_taken}
+use Rattle.core_model.specs.declared.point.Hold.TheVariants.{Free, Names, Held}
 
 -- the values of the rows behind the shown head, first to last
 abbrev pub shown_queue : (ℕ → ℕ) → Ghost → List ℕ
@@ -64,16 +64,36 @@ pub record Headed (first : ℕ) (word : HeadWord) (path : ℕ → ℕ) (head res
 abbrev pub OwnGroups : ℕ → List Group → Caller → Bool → Type 0
 OwnGroups c h k linearized = mine h c ≡ k.mine ++ cond linearized (own_group c k ∷ []) []
 
--- A caller whose commands made these groups, and which runs these operations, is within its allowance. It took one row for
--- each of its enqueues, and one announcement for each batch of two operations or more, and has so many.
-pub record Allowed (z : LaneSizes) (groups : List Group) (running : List Op) (taken stopped made : ℕ) : Type 0 where
+-- A caller whose commands made these groups, and which runs these operations, is within its allowance. It took one item row
+-- for each of its enqueues, and one stopper for each batch of dequeues alone, and has so many.
+pub record Allowed (z : LaneSizes) (groups : List Group) (running : List Op) (taken stopped : ℕ) : Type 0 where
   pub within : length (operations groups) + length running ≤ z.allowance
   pub rows : taken ≡ enqueue_count (operations groups) + enqueue_count running
   pub has_rows : taken ≤ z.items
-  pub anns : made ≡ many_count groups + anns_taken running
-  pub has_anns : made ≤ z.callers
-  -- a stopper comes with an announcement
-  pub few_stoppers : stopped ≤ made
+  pub stoppers : stopped ≡ alone_count groups + stoppers_taken running
+  pub has_stoppers : stopped ≤ z.stoppers
+
+-- what a hazard word names, and what its caller holds
+abbrev pub named_by : Hold → Option ℕ
+named_by Free = None
+named_by (Names a) = Some a
+named_by (Held a) = Some a
+
+abbrev pub held_by : Hold → Option ℕ
+held_by Free = None
+held_by (Names a) = None
+held_by (Held a) = Some a
+
+-- The hazard word of caller c names what the caller has stored there, which it may hold. What it holds was installed, and
+-- is not given for another use.
+pub record Guarded (callers : ℕ) (hazard : Option ℕ) (stage : ℕ → Stage) (held : Option ℕ) (c : ℕ) (hold : Hold) : Type 0 where
+  pub word : hazard ≡ named_by hold
+  pub holds : held ≡ held_by hold
+  pub installed : (a : ℕ) → held ≡ Some a → stage a ≢ unused
+  pub known : (a : ℕ) → held ≡ Some a → c < callers
+
+abbrev pub Guards : LaneSizes → Memory → Ghost → ℕ → Hold → Type 0
+Guards z m g c hold = Guarded z.callers (m.ann_hazard c) g.stage (g.held c) c hold
 
 -- each link names a row of the lane
 abbrev pub LinksIn : ℕ → LinkWord → Type 0
@@ -125,11 +145,7 @@ pub record Stages (first anns : ℕ) (stage : ℕ → Stage) (ann : Option ℕ) 
 abbrev pub Announced : LaneSizes → Memory → Ghost → Type 0
 Announced z m g = Stages z.first (z.callers * z.callers) g.stage g.ann m.notice m.old_tail g.span g.path g.chained g.cause g.head (g.head + g.rest) g.shown g.tail
 
--- a caller that helps its own announcement
-abbrev pub IsOwn : Back → Type 0
-IsOwn back.Own = Unit {0}
-IsOwn _ = ⊥
-
+-- the caller helps its own announcement
 abbrev pub HelpsOwn : Point → Type 0
 HelpsOwn (point.Help h p) = IsOwn h.back
 HelpsOwn _ = ⊥
@@ -167,10 +183,6 @@ pub record Pending (z : LaneSizes) (link : ℕ → LinkWord) (value : ℕ → �
 abbrev pub Waits : LaneSizes → Memory → Ghost → (ℕ → Caller) → ℕ → Type 0
 Waits z m g callers a = g.stage a ≡ waiting → Pending z m.link m.value g.spot g.chain (g.linearized (owner_of z a)) (m.notice a) (owner_of z a) (callers (owner_of z a))
 
--- the announcements that a caller didn't use yet
-abbrev pub Unmade : LaneSizes → (ℕ → Stage) → ℕ → Caller → Type 0
-Unmade z stage c k = (i : ℕ) → k.made ≤ i → i < z.callers → stage (own_ann z c i) ≡ unused
-
 -- the list of rows with HEAD and TAIL, in a lane whose history has so many operations
 pub record Ordered (z : LaneSizes) (head_is : HeadWord) (tail_is : Place) (link : ℕ → LinkWord) (made : ℕ) (path : ℕ → ℕ) (chained : ℕ → Bool) (spot : ℕ → Option ℕ)
     (first_at rest tail_at : ℕ) (ann : Option ℕ) (shown queued : ℕ) : Type 0 where
@@ -187,9 +199,9 @@ InOrder z m h g = Ordered z m.head m.tail m.link (length (operations h)) g.path 
 
 -- what is true of caller c, which keeps k
 pub record OfCaller (z : LaneSizes) (w : World) (c : ℕ) (k : Caller) : Type 0 where
-  pub unmade : Unmade z w.ghost.stage c k
+  pub guards : Guards z w.memory w.ghost c k.hold
   pub own_groups : OwnGroups c w.history k (w.ghost.linearized c)
-  pub allowed : Allowed z k.mine k.ops k.taken k.stopped k.made
+  pub allowed : Allowed z k.mine k.ops k.taken k.stopped
   pub knows : Knows z w c k
 
 pub record Lawful (z : LaneSizes) (s : State) : Type 0 where

@@ -11,6 +11,7 @@ pub mod Fits
 pub mod Help
 pub mod Enqueue
 pub mod Dequeue
+pub mod Fill
 pub mod Batch
 pub mod Many
 pub mod Answer
@@ -27,5 +28,6 @@ pub mod Alone
 pub mod Noted
 pub mod Facts
 pub mod Lawful
+pub mod Held
 pub mod Shown
 pub mod Saying

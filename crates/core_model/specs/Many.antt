@@ -1,43 +1,41 @@
 -- Several dequeues and no enqueue: the batch walks behind the dummy for its values, and moves HEAD over all of their rows at
--- once. Where it finds fewer it writes an announcement, whose chain is its stopper, and installs that.
-use Rattle.std.specs.Prelude.{◌<◌, ℕ, zero, suc, ◌-◌, nat_le, List, [], ◌∷◌, cond, false}
+-- once. Where it finds fewer it announces itself, with its stopper as the chain.
+use Rattle.std.specs.Prelude.{◌<◌, ℕ, zero, suc, ◌-◌, nat_le, List, [], ◌∷◌, cond, false, Option, Some, None}
 use Rattle.word_rows.specs.declared.place.Place.{Place}
 use Rattle.word_rows.specs.declared.head_word.HeadWord.{HeadWord}
 use Rattle.word_rows.specs.declared.head_word.HeadWord.TheVariants.{Node, Ann}
 use Rattle.word_rows.specs.declared.link_word.LinkWord.{LinkWord}
 use Rattle.word_rows.specs.declared.link_word.LinkWord.TheVariants.{Nil, Single, Chain, Shut}
-use Rattle.word_rows.specs.declared.location.AnnField.{AnnField}
 use Rattle.word_rows.specs.declared.location.AnnField.TheVariants as field
-use Rattle.word_rows.specs.declared.location.Location.TheVariants.{Head, Tail, Link, Value, AnnWord}
+use Rattle.word_rows.specs.declared.location.Location.TheVariants.{Head, Tail, Link, Value}
 use Rattle.word_rows.specs.declared.content.Content.{Content}
 use Rattle.word_rows.specs.declared.content.Content.TheVariants.{OfHead}
 use Rattle.core_model.specs.declared.act.Act.{Act}
-use Rattle.core_model.specs.declared.act.Act.TheVariants.{Load, Store, Exchange}
+use Rattle.core_model.specs.declared.act.Act.TheVariants.{Load, Exchange}
 use Rattle.core_model.specs.declared.course.Course.{Course}
-use Rattle.core_model.specs.declared.course.Course.TheVariants.{GoesOn, Walks, WalksMore, Answers}
+use Rattle.core_model.specs.declared.course.Course.TheVariants.{GoesOn, Scans, Walks, WalksMore, Answers}
 use Rattle.core_model.specs.declared.kind.StepKind.{StepKind}
 use Rattle.core_model.specs.declared.kind.StepKind.TheVariants as kind
-use Rattle.core_model.specs.declared.point.Draft.{Draft}
+use Rattle.core_model.specs.declared.point.Notice.{Notice}
+use Rattle.core_model.specs.declared.point.Plan.{Plan}
 use Rattle.core_model.specs.declared.point.Back.TheVariants as back
 use Rattle.core_model.specs.declared.point.BatchPoint.TheVariants as batch
 use Rattle.core_model.specs.declared.point.HelpPoint.TheVariants as help
 use Rattle.core_model.specs.declared.point.ManyPoint.{ManyPoint}
-use Rattle.core_model.specs.declared.point.ManyPoint.TheVariants.{LoadHead, LoadDummy, LoadLink, LoadValue, LoadTail, MoveHead, LoadBehind, PassTail, LoadChained, StoreField}
+use Rattle.core_model.specs.declared.point.ManyPoint.TheVariants.{LoadHead, LoadDummy, LoadLink, LoadValue, LoadTail, MoveHead, LoadBehind, PassTail, LoadChained}
 use Rattle.core_model.specs.declared.point.Point.{Point}
 use Rattle.core_model.specs.declared.point.Point.TheVariants as point
-use Rattle.core_model.specs.Notices.{field_in}
 use Rattle.core_model.specs.State.{Command, head_in, tail_in, link_in, value_in}
 use Rattle.core_model.specs.Act.{is_node, far_behind, by_one}
-use Rattle.core_model.specs.Batch.{on_head}
 use Rattle.core_model.specs.Help.{help_of}
 use Rattle.core_model.specs.Stopper.{chain_rows}
-use Rattle.core_model.specs.Fact.{Fact, linked, head_seen, tail_seen, next_is, by_single, linearized_is, drafts, fills, written, head_written, only_dequeues, has_walked, is_walking, to_walk}
+use Rattle.core_model.specs.Fact.{Fact, linked, head_seen, tail_seen, next_is, by_single, linearized_is, drafts, fills, spares, only_dequeues, has_walked, is_walking, to_walk}
 use Rattle.bq_model.specs.declared.shape.Shape.{Shape}
 use Rattle.word_rows.specs.Fits.{limits_of, PlaceFits}
 use Rattle.word_rows.specs.Sizes.{rows_of}
 
 -- HEAD is to move over all dequeues' rows, to the row r
-abbrev pub act : Draft → ManyPoint → Act
+abbrev pub act : Plan → ManyPoint → Act
 act d LoadHead = Load Head
 act d LoadDummy = Load (Link d.notice.old_head.row)
 act d (LoadLink r l) = Load (Link r)
@@ -47,30 +45,38 @@ act d (MoveHead r) = Exchange Head (OfHead (Node d.notice.old_head)) (OfHead (No
 act d (LoadBehind p) = Load (Link p.row)
 act d (PassTail p n) = by_one p n
 act d LoadChained = Load Head
-act d (StoreField f) = Store (AnnWord d.ann f) (field_in d.notice f)
+
+-- the plan with this old head
+abbrev pub on_dummy : Plan → Place → Plan
+on_dummy d p = record d { notice = record d.notice { old_head = p } }
 
 -- it found this in HEAD; or this, behind a chain
-abbrev pub after_head : Draft → HeadWord → Point
-after_head d (Node p) = point.Many (on_head d p) LoadDummy
-after_head d (Ann a n) = point.Help (help_of a (back.Many d)) help.LoadOldHead
+abbrev pub after_head : Plan → HeadWord → Point
+after_head d (Node p) = point.Many (on_dummy d p) LoadDummy
+after_head d (Ann a n) = point.Help (help_of a n (back.Many d)) help.StoreHazard
 
-abbrev pub after_chained : Draft → HeadWord → Point
+abbrev pub after_chained : Plan → HeadWord → Point
 after_chained d (Node p) = point.Many d LoadHead
-after_chained d (Ann a n) = point.Help (help_of a (back.Many d)) help.LoadOldHead
+after_chained d (Ann a n) = point.Help (help_of a n (back.Many d)) help.StoreHazard
 
 -- it found this behind the dummy
-abbrev pub after_dummy : Draft → LinkWord → Course
+abbrev pub after_dummy : Plan → LinkWord → Course
 after_dummy d Nil = Answers 0
 after_dummy d (Single r) = Walks (point.Many d (LoadValue r (d.notice.counts.deqs - 1)))
 after_dummy d (Chain r) = Walks (point.Many d (LoadValue r (d.notice.counts.deqs - 1)))
 after_dummy d Shut = GoesOn (point.Many d LoadHead)
 
+-- there are too few values: it stores its announcement, which it chooses first where it hasn't
+abbrev pub announces : Notice → Option ℕ → Course
+announces n None = Scans n
+announces n (Some a) = GoesOn (point.Batch (record { ann = a; notice = n }) (batch.StoreAll field.OldHead))
+
 -- or behind a row that it has walked to
-abbrev pub after_link : ℕ → LinkWord → ManyPoint
-after_link l Nil = StoreField field.OldHead
-after_link l (Single n) = LoadValue n l
-after_link l (Chain n) = LoadValue n l
-after_link l Shut = LoadHead
+abbrev pub after_link : Plan → ℕ → LinkWord → Course
+after_link d l Nil = announces d.notice d.ann
+after_link d l (Single n) = GoesOn (point.Many d (LoadValue n l))
+after_link d l (Chain n) = GoesOn (point.Many d (LoadValue n l))
+after_link d l Shut = GoesOn (point.Many d LoadHead)
 
 -- it has read the value of this row, with so many to go
 abbrev pub after_value : ℕ → ℕ → ManyPoint
@@ -78,7 +84,7 @@ after_value r zero = LoadTail r
 after_value r (suc l) = LoadLink r l
 
 -- it found this tail, where the row is to be the new dummy
-abbrev pub after_tail : Draft → ℕ → Place → ManyPoint
+abbrev pub after_tail : Plan → ℕ → Place → ManyPoint
 after_tail d r p = cond (nat_le d.notice.counts.deqs (p.count - d.notice.old_head.count)) (MoveHead r) (LoadBehind p)
 
 -- it found this behind the row of a tail that lies before that
@@ -88,30 +94,16 @@ after_behind p (Single n) = PassTail p n
 after_behind p (Chain n) = LoadChained
 after_behind p Shut = LoadHead
 
--- it has stored this field
-abbrev pub after_field : Draft → AnnField → Point
-after_field d field.OldHead = point.Many d (StoreField field.OldTail)
-after_field d field.OldTail = point.Many d (StoreField field.First)
-after_field d field.First = point.Many d (StoreField field.Last)
-after_field d field.Last = point.Many d (StoreField field.Counts)
-after_field d field.Counts = point.Many d (StoreField field.BatchNo)
-after_field d field.BatchNo = point.Many d (StoreField field.Order0)
-after_field d field.Order0 = point.Many d (StoreField field.Order1)
-after_field d field.Order1 = point.Many d (StoreField field.Order2)
-after_field d field.Order2 = point.Many d (StoreField field.Order3)
-after_field d field.Order3 = point.Batch d batch.Install
-
-abbrev pub course : Draft → ManyPoint → Content → Course
+abbrev pub course : Plan → ManyPoint → Content → Course
 course d LoadHead x = GoesOn (after_head d (head_in x))
 course d LoadDummy x = after_dummy d (link_in x)
-course d (LoadLink r l) x = GoesOn (point.Many d (after_link l (link_in x)))
+course d (LoadLink r l) x = after_link d l (link_in x)
 course d (LoadValue r l) x = WalksMore (point.Many d (after_value r l)) (value_in x)
 course d (LoadTail r) x = GoesOn (point.Many d (after_tail d r (tail_in x)))
 course d (MoveHead r) x = cond (is_node (head_in x) d.notice.old_head) (Answers d.notice.counts.deqs) (GoesOn (point.Many d LoadHead))
 course d (LoadBehind p) x = GoesOn (point.Many d (after_behind p (link_in x)))
 course d (PassTail p r) x = GoesOn (point.Many d LoadHead)
 course d LoadChained x = GoesOn (after_chained d (head_in x))
-course d (StoreField f) x = GoesOn (after_field d f)
 
 abbrev pub kind_of : ManyPoint → StepKind
 kind_of LoadHead = kind.LoadHead
@@ -123,27 +115,21 @@ kind_of (MoveHead r) = kind.MoveHeadMany
 kind_of (LoadBehind p) = kind.LoadLink
 kind_of (PassTail p n) = kind.MoveTail
 kind_of LoadChained = kind.LoadHead
-kind_of (StoreField f) = kind.StoreAnn
 
 -- what the owner knows of its command, and besides at each of its steps, where it has read these values
-abbrev pub call_knows : Command → Draft → List Fact
-call_knows m d = linearized_is false ∷ drafts m d ∷ fills m.taken m.stopped d.notice m.ops d.notice.counts.enqs (chain_rows d.notice.counts - 1) ∷ only_dequeues d ∷ []
+abbrev pub call_knows : Command → Plan → List Fact
+call_knows m d = linearized_is false ∷ drafts m d.notice ∷ fills m.taken m.stopped d.notice m.ops d.notice.counts.enqs (chain_rows d.notice.counts - 1) ∷ only_dequeues d.notice ∷ []
 
-abbrev pub field_knows : Draft → AnnField → List Fact
-field_knows d field.OldHead = written d field.OldTail ∷ []
-field_knows d f = written d f ∷ head_written d ∷ []
-
-abbrev pub knows : List ℕ → Draft → ManyPoint → List Fact
-knows vs d LoadHead = written d field.OldTail ∷ []
-knows vs d LoadDummy = written d field.OldTail ∷ linked d.notice.old_head ∷ head_seen d.notice.old_head ∷ []
-knows vs d (LoadLink r l) = written d field.OldTail ∷ has_walked d.notice.old_head vs r ∷ to_walk d vs (suc l) ∷ []
-knows vs d (LoadValue r l) = written d field.OldTail ∷ is_walking d.notice.old_head vs r ∷ to_walk d vs (suc l) ∷ []
-knows vs d (LoadTail r) = written d field.OldTail ∷ has_walked d.notice.old_head vs r ∷ to_walk d vs 0 ∷ []
-knows vs d (MoveHead r) = written d field.OldTail ∷ has_walked d.notice.old_head vs r ∷ to_walk d vs 0 ∷ tail_seen (far_behind d.notice.old_head r d.notice.counts.deqs) ∷ []
-knows vs d (LoadBehind p) = written d field.OldTail ∷ linked p ∷ []
-knows vs d (PassTail p n) = written d field.OldTail ∷ next_is p n ∷ by_single p ∷ []
-knows vs d LoadChained = written d field.OldTail ∷ []
-knows vs d (StoreField f) = field_knows d f
+abbrev pub knows : List ℕ → Plan → ManyPoint → List Fact
+knows vs d LoadHead = spares d.ann ∷ []
+knows vs d LoadDummy = spares d.ann ∷ linked d.notice.old_head ∷ head_seen d.notice.old_head ∷ []
+knows vs d (LoadLink r l) = spares d.ann ∷ has_walked d.notice.old_head vs r ∷ to_walk d.notice vs (suc l) ∷ []
+knows vs d (LoadValue r l) = spares d.ann ∷ is_walking d.notice.old_head vs r ∷ to_walk d.notice vs (suc l) ∷ []
+knows vs d (LoadTail r) = spares d.ann ∷ has_walked d.notice.old_head vs r ∷ to_walk d.notice vs 0 ∷ []
+knows vs d (MoveHead r) = spares d.ann ∷ has_walked d.notice.old_head vs r ∷ to_walk d.notice vs 0 ∷ tail_seen (far_behind d.notice.old_head r d.notice.counts.deqs) ∷ []
+knows vs d (LoadBehind p) = spares d.ann ∷ linked p ∷ []
+knows vs d (PassTail p n) = spares d.ann ∷ next_is p n ∷ by_single p ∷ []
+knows vs d LoadChained = spares d.ann ∷ []
 
 -- what it has read fits in the lane
 abbrev pub fits : Shape → ManyPoint → Type 0

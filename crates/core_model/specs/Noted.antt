@@ -21,7 +21,6 @@ pub record EndsFull (n : ℕ) (old new : Caller) : Type 0 where
   pub mine : new.mine ≡ old.mine
   pub taken : new.taken ≡ old.taken
   pub stopped : new.stopped ≡ old.stopped
-  pub made : new.made ≡ old.made
   pub started_at : new.started_at ≡ n
   pub ended_at : new.ended_at ≡ Some n
   pub outcome : new.outcome ≡ Some outcome.Full
@@ -33,7 +32,6 @@ pub record GoesOn (old new : Caller) : Type 0 where
   pub mine : new.mine ≡ old.mine
   pub taken : new.taken ≡ old.taken
   pub stopped : new.stopped ≡ old.stopped
-  pub made : new.made ≡ old.made
   pub started_at : new.started_at ≡ old.started_at
   pub ended_at : new.ended_at ≡ old.ended_at
   pub outcome : new.outcome ≡ old.outcome
@@ -46,7 +44,6 @@ pub record EndsDone (n c : ℕ) (old new : Caller) : Type 0 where
   pub mine : new.mine ≡ old.mine ++ own_group c old ∷ []
   pub taken : new.taken ≡ old.taken
   pub stopped : new.stopped ≡ old.stopped
-  pub made : new.made ≡ old.made
   pub started_at : new.started_at ≡ old.started_at
   pub ended_at : new.ended_at ≡ Some n
   pub outcome : new.outcome ≡ Some outcome.Done

@@ -5,10 +5,10 @@ use Rattle.word_rows.specs.declared.content.Content.TheVariants.{OfHead, OfTail,
 use Rattle.word_rows.specs.declared.head_word.HeadWord.TheVariants.{Node}
 use Rattle.word_rows.specs.declared.link_word.LinkWord.TheVariants.{Single, Chain}
 use Rattle.word_rows.specs.declared.location.Location.{Location}
-use Rattle.word_rows.specs.declared.location.Location.TheVariants.{Head, Tail, Link, Value, AnnWord}
+use Rattle.word_rows.specs.declared.location.Location.TheVariants.{Head, Tail, Link, Value, AnnHazard, AnnWord}
 use Rattle.core_model.specs.declared.point.Point.{Point}
 use Rattle.core_model.specs.declared.point.DequeuePoint.TheVariants as deq
-use Rattle.core_model.specs.declared.point.BatchPoint.TheVariants as batch
+use Rattle.core_model.specs.declared.point.FillPoint.TheVariants as fill
 use Rattle.core_model.specs.declared.point.ManyPoint.TheVariants as many
 use Rattle.core_model.specs.declared.point.Point.TheVariants as point
 use Rattle.core_model.specs.declared.point.EnqueuePoint.TheVariants as enq
@@ -16,17 +16,18 @@ use Rattle.core_model.specs.declared.point.HelpPoint.TheVariants as help
 use Rattle.core_model.specs.Stopper.{linked_rows}
 use Rattle.core_model.specs.Help.{before_it}
 
--- a word of a lane with so many rows and announcements
-abbrev pub IsWord : ℕ → ℕ → Location → Type 0
-IsWord rows anns (Link r) = r < rows
-IsWord rows anns (Value r) = r < rows
-IsWord rows anns (AnnWord a f) = a < anns
-IsWord rows anns _ = Unit {0}
+-- a word of a lane with so many rows, callers and announcements
+abbrev pub IsWord : ℕ → ℕ → ℕ → Location → Type 0
+IsWord rows callers anns (Link r) = r < rows
+IsWord rows callers anns (Value r) = r < rows
+IsWord rows callers anns (AnnHazard c) = c < callers
+IsWord rows callers anns (AnnWord a f) = a < anns
+IsWord rows callers anns _ = Unit {0}
 
 -- the rows and the numbers that a batch counts on from
 abbrev pub RowsFit : Point → Type 0
-RowsFit (point.Batch d (batch.StoreValue i r v)) = (d.notice.first + i < 2 ^ 31) × (r < 2 ^ 31)
-RowsFit (point.Batch d (batch.StoreChain i r n)) = (i < 2 ^ 31) × (n < 2 ^ 31)
+RowsFit (point.Fill s (fill.StoreValue i r v)) = (s.first + i < 2 ^ 31) × (r < 2 ^ 31)
+RowsFit (point.Fill s (fill.StoreChain i r n)) = (i < 2 ^ 31) × (n < 2 ^ 31)
 RowsFit _ = Unit {0}
 
 -- the count that the step raises to and stores

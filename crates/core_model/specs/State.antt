@@ -17,6 +17,7 @@ use Rattle.word_rows.specs.declared.content.Content.TheVariants.{OfHead, OfTail,
 use Rattle.word_rows.specs.Opening.{opening_marks}
 use Rattle.core_model.specs.declared.point.Notice.{Notice}
 use Rattle.core_model.specs.declared.point.Point.{Point}
+use Rattle.core_model.specs.declared.point.Hold.{Hold}
 use Rattle.core_model.specs.declared.point.CallEnd.{CallEnd}
 use Rattle.core_model.specs.Functions.{put}
 use Rattle.core_model.specs.Notices.{place, field_in, with_field}
@@ -30,6 +31,8 @@ pub record Memory : Type 0 where
   -- of each announcement OldTail, none while it isn't known, and what it says else
   pub old_tail : ℕ → Option Place
   pub notice : ℕ → Notice
+  -- the announcement that the ANN_HAZARD of a caller names
+  pub ann_hazard : ℕ → Option ℕ
 
 -- what a caller keeps
 pub record Caller : Type 0 where
@@ -39,12 +42,15 @@ pub record Caller : Type 0 where
   pub ops : List Op
   -- the groups of its ended commands that answered Done
   pub mine : List Group
-  -- how many item rows and how many stoppers it took, and how many batches of two operations or more it started
+  -- how many item rows and how many stoppers it took
   pub taken : ℕ
   pub stopped : ℕ
-  pub made : ℕ
   -- the values that it has read for the answers of its batch
   pub values : List ℕ
+  -- the announcements that it has found in the ANN_HAZARD words of others, in its last choice of one
+  pub named : List ℕ
+  -- what its own ANN_HAZARD names, and whether it holds that
+  pub hold : Hold
   -- how its last ended command ended, and that one's answers
   pub outcome : Option CallEnd
   pub answers : List Answer
@@ -58,11 +64,10 @@ pub record Command : Type 0 where
   pub mine : List Group
   pub taken : ℕ
   pub stopped : ℕ
-  pub made : ℕ
   pub started_at : ℕ
 
 abbrev pub command : Caller → Command
-command k = record { ops = k.ops; mine = k.mine; taken = k.taken; stopped = k.stopped; made = k.made; started_at = k.started_at }
+command k = record { ops = k.ops; mine = k.mine; taken = k.taken; stopped = k.stopped; started_at = k.started_at }
 
 -- the group of the running command of caller c
 abbrev pub own_group : ℕ → Caller → Group
@@ -81,7 +86,7 @@ field_of tail n f = field_in n f
 abbrev pub read_field : Memory → ℕ → AnnField → Content
 read_field m a f = field_of (m.old_tail a) (m.notice a) f
 
--- What is found in a word. No step touches marks and hazards yet.
+-- What is found in a word. No step touches marks and NODE_HAZARD words yet.
 
 abbrev pub read : Memory → Location → Content
 read m Head = OfHead m.head
@@ -91,9 +96,9 @@ read m (Value r) = OfValue (m.value r)
 read m (AnnWord a f) = read_field m a f
 read m (Mark r) = OfMark (opening_marks r)
 read m (NodeHazard c) = OfNodeHazard None
-read m (AnnHazard c) = OfAnnHazard None
+read m (AnnHazard c) = OfAnnHazard (m.ann_hazard c)
 
--- the content as that of a head, a tail, a link, a value or an OldTail; any, where it is of another kind
+-- the content as that of a head, a tail, a link, a value, an OldTail or an ANN_HAZARD; any, where it is of another kind
 abbrev pub head_in : Content → HeadWord
 head_in (OfHead x) = x
 head_in _ = Ann 0 0
@@ -114,6 +119,10 @@ abbrev pub old_tail_in : Content → Option Place
 old_tail_in (OfOldTail x) = x
 old_tail_in _ = None
 
+abbrev pub hazard_in : Content → Option ℕ
+hazard_in (OfAnnHazard x) = x
+hazard_in _ = None
+
 -- the words after a store
 abbrev pub write_field : Memory → ℕ → AnnField → Content → Memory
 write_field m a OldTail x = record m { old_tail = put m.old_tail a (old_tail_in x) }
@@ -125,4 +134,5 @@ write m Tail x = record m { tail = tail_in x }
 write m (Link r) x = record m { link = put m.link r (link_in x) }
 write m (Value r) x = record m { value = put m.value r (value_in x) }
 write m (AnnWord a f) x = write_field m a f x
+write m (AnnHazard c) x = record m { ann_hazard = put m.ann_hazard c (hazard_in x) }
 write m _ x = m

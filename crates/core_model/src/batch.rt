@@ -1,58 +1,15 @@
-// A batch of several operations, until its announcement is installed: its owner stores the values and the links of its
-// rows and the fields of its announcement.
+// A batch that has chosen its announcement, until this is installed: its owner stores the fields of the announcement. Where
+// there is an enqueue it stores OldHead last, and again after an install that failed; dequeues alone store all from OldHead on.
 ghost use Rattle.std.specs.Prelude.{◌≡◌};
-ghost use Rattle.core_model.specs.Batch.{act, after_value, after_chain, after_field, after_head, retry, course, kind_of};
-ghost use Rattle.core_model.specs.Ranges.{RowsFit};
+ghost use Rattle.core_model.specs.Batch.{act, after_field, after_whole, after_head, retry, course, kind_of};
 
 use crate::act::Act;
 use crate::course::Course;
 use crate::found::head_in;
-use crate::help::help_of;
+use crate::help::{help_of, own_help};
 use crate::kind::StepKind;
-use crate::point::{Back, BatchPoint, Draft, HelpPoint, ManyPoint, Notice, Point};
-use word_rows::{AnnField, Content, HeadWord, LinkWord, Location};
-
-// It has filled this row, that of this number.
-fn after_value(draft: Draft, number: u32, row: u32) -> Course
-    requires { RowsFit (Point.Batch draft (BatchPoint.StoreValue number row 0)) }
-    ensures { result ≡ after_value draft number row }
-{
-    let enqs = draft.notice.counts.enqs;
-    if number + 1 == enqs {
-        let point = if enqs == 1 {
-            BatchPoint::StoreField(AnnField::OldTail)
-        } else {
-            BatchPoint::StoreChain {
-                number: 0,
-                row: draft.notice.first,
-                next: draft.notice.first + 1,
-            }
-        };
-        Course::GoesOn(Point::Batch(draft, point))
-    } else {
-        Course::Fills {
-            draft,
-            number: number + 1,
-            row: row + 1,
-        }
-    }
-}
-
-// It has linked the row of this number to the next one, which is this.
-fn after_chain(draft: Draft, number: u32, next: u32) -> BatchPoint
-    requires { RowsFit (Point.Batch draft (BatchPoint.StoreChain number 0 next)) }
-    ensures { result ≡ after_chain draft number next }
-{
-    if number + 2 == draft.notice.counts.enqs {
-        BatchPoint::StoreField(AnnField::OldTail)
-    } else {
-        BatchPoint::StoreChain {
-            number: number + 1,
-            row: next,
-            next: next + 1,
-        }
-    }
-}
+use crate::point::{Back, BatchPoint, Draft, HelpPoint, ManyPoint, Notice, Plan, Point};
+use word_rows::{AnnField, Content, HeadWord, Location};
 
 // It has stored this field.
 fn after_field(field: AnnField) -> BatchPoint
@@ -72,6 +29,24 @@ fn after_field(field: AnnField) -> BatchPoint
     })
 }
 
+// It has no enqueue, and has stored this field.
+fn after_whole(field: AnnField) -> BatchPoint
+    ensures { result ≡ after_whole field }
+{
+    BatchPoint::StoreAll(match field {
+        AnnField::OldHead => AnnField::OldTail,
+        AnnField::OldTail => AnnField::First,
+        AnnField::First => AnnField::Last,
+        AnnField::Last => AnnField::Counts,
+        AnnField::Counts => AnnField::BatchNo,
+        AnnField::BatchNo => AnnField::Order0,
+        AnnField::Order0 => AnnField::Order1,
+        AnnField::Order1 => AnnField::Order2,
+        AnnField::Order2 => AnnField::Order3,
+        AnnField::Order3 => return BatchPoint::Install,
+    })
+}
+
 // It found this in HEAD.
 fn after_head(draft: Draft, head: HeadWord) -> Point
     ensures { result ≡ after_head draft head }
@@ -88,9 +63,10 @@ fn after_head(draft: Draft, head: HeadWord) -> Point
                 BatchPoint::StoreField(AnnField::OldHead),
             )
         }
-        HeadWord::Ann { ann, .. } => {
-            Point::Help(help_of(ann, Back::Batch(draft)), HelpPoint::LoadOldHead)
-        }
+        HeadWord::Ann { ann, count } => Point::Help(
+            help_of(ann, count, Back::Batch(draft)),
+            HelpPoint::StoreHazard,
+        ),
     }
 }
 
@@ -99,7 +75,11 @@ fn retry(draft: Draft) -> Point
     ensures { result ≡ retry draft }
 {
     if draft.notice.counts.enqs == 0 {
-        Point::Many(draft, ManyPoint::LoadHead)
+        let plan = Plan {
+            ann: Some(draft.ann),
+            notice: draft.notice,
+        };
+        Point::Many(plan, ManyPoint::LoadHead)
     } else {
         Point::Batch(draft, BatchPoint::LoadHead)
     }
@@ -111,14 +91,7 @@ impl BatchPoint {
         ensures { result ≡ act draft self }
     {
         match self {
-            BatchPoint::StoreValue { row, value, .. } => {
-                Act::Store(Location::Value { row }, Content::OfValue(value))
-            }
-            BatchPoint::StoreChain { row, next, .. } => Act::Store(
-                Location::Link { row },
-                Content::OfLink(LinkWord::Single(next)),
-            ),
-            BatchPoint::StoreField(field) => Act::Store(
+            BatchPoint::StoreField(field) | BatchPoint::StoreAll(field) => Act::Store(
                 Location::AnnWord {
                     ann: draft.ann,
                     field,
@@ -142,19 +115,15 @@ impl BatchPoint {
 
     /// What becomes of the call after the step that found this in its word.
     pub fn course(self, draft: Draft, found: Content) -> Course
-        requires { RowsFit (Point.Batch draft self) }
         ensures { result ≡ course draft self found }
     {
         Course::GoesOn(match self {
-            BatchPoint::StoreValue { number, row, .. } => return after_value(draft, number, row),
-            BatchPoint::StoreChain { number, next, .. } => {
-                Point::Batch(draft, after_chain(draft, number, next))
-            }
             BatchPoint::StoreField(field) => Point::Batch(draft, after_field(field)),
+            BatchPoint::StoreAll(field) => Point::Batch(draft, after_whole(field)),
             BatchPoint::LoadHead => after_head(draft, head_in(found)),
             BatchPoint::Install => {
                 if head_in(found) == HeadWord::Node(draft.notice.old_head) {
-                    Point::Help(help_of(draft.ann, Back::Own), HelpPoint::LoadOldHead)
+                    Point::Help(own_help(draft), HelpPoint::StoreHazard)
                 } else {
                     retry(draft)
                 }
@@ -167,9 +136,7 @@ impl BatchPoint {
         ensures { result ≡ kind_of self }
     {
         match self {
-            BatchPoint::StoreValue { .. } => StepKind::StoreValue,
-            BatchPoint::StoreChain { .. } => StepKind::StoreChain,
-            BatchPoint::StoreField(_) => StepKind::StoreAnn,
+            BatchPoint::StoreField(_) | BatchPoint::StoreAll(_) => StepKind::StoreAnn,
             BatchPoint::LoadHead => StepKind::LoadHead,
             BatchPoint::Install => StepKind::Install,
         }

@@ -18,8 +18,8 @@ fn after_head(head: HeadWord) -> Point
 {
     match head {
         HeadWord::Node(dummy) => Point::Dequeue(DequeuePoint::LoadLink(dummy)),
-        HeadWord::Ann { ann, .. } => {
-            Point::Help(help_of(ann, Back::Dequeue), HelpPoint::LoadOldHead)
+        HeadWord::Ann { ann, count } => {
+            Point::Help(help_of(ann, count, Back::Dequeue), HelpPoint::StoreHazard)
         }
     }
 }

@@ -30,9 +30,9 @@ fn after_head(item: Item, head: HeadWord) -> Point
 {
     match head {
         HeadWord::Node(_) => Point::Enqueue(item, EnqueuePoint::LoadTail),
-        HeadWord::Ann { ann, .. } => Point::Help(
-            help_of(ann, Back::Enqueue(item)),
-            HelpPoint::LoadOldHead,
+        HeadWord::Ann { ann, count } => Point::Help(
+            help_of(ann, count, Back::Enqueue(item)),
+            HelpPoint::StoreHazard,
         ),
     }
 }

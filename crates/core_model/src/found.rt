@@ -1,6 +1,6 @@
 // What a step finds in its word.
 ghost use Rattle.std.specs.Prelude.{◌≡◌, ◌+◌, ◌<◌, ◌^◌};
-ghost use Rattle.core_model.specs.State.{head_in, tail_in, link_in, value_in, old_tail_in};
+ghost use Rattle.core_model.specs.State.{head_in, tail_in, link_in, value_in, old_tail_in, hazard_in};
 ghost use Rattle.core_model.specs.Act.{behind, far_behind};
 
 use word_rows::{Content, HeadWord, LinkWord, Place};
@@ -51,6 +51,16 @@ pub fn old_tail_in(found: Content) -> Option<Place>
 {
     match found {
         Content::OfOldTail(tail) => tail,
+        _ => None,
+    }
+}
+
+/// What was found in the ANN_HAZARD of a caller.
+pub fn hazard_in(found: Content) -> Option<u32>
+    ensures { result ≡ hazard_in found }
+{
+    match found {
+        Content::OfAnnHazard(ann) => ann,
         _ => None,
     }
 }

@@ -1,28 +1,29 @@
-// A help: it reads the announcement in HEAD, links its chain or its stopper where it has one to link, records its old tail,
+// A help: it names the announcement in its hazard word, and where that still stands in HEAD, it reads the announcement, links its chain or its stopper where it has one to link, records its old tail,
 // and moves TAIL and HEAD.
 ghost use Rattle.std.specs.Prelude.{◌≡◌, Some, None};
-ghost use Rattle.core_model.specs.Help.{help_of, act, at_old_tail, after_old_tail, after_link, after_record, walk_on, walk_from, walk, back_point, after_walk, course, kind_of};
+ghost use Rattle.core_model.specs.Help.{help_of, own_help, after_head, act, at_old_tail, after_old_tail, after_link, after_record, walk_on, walk_from, walk, back_point, after_walk, course, kind_of};
 ghost use Rattle.core_model.specs.Ranges.{CountsFit};
 
 use crate::act::{Act, by_one};
 use crate::count::{before_it, gets, has_enough, is_stopped, linked_rows};
 use crate::course::Course;
-use crate::found::{far_behind, link_in, old_tail_in, tail_in};
+use crate::found::{far_behind, head_in, link_in, old_tail_in, tail_in};
 use crate::kind::StepKind;
 use crate::notice::{chain_end_in, counts_in, dummy_in};
 use crate::point::{
-    AnswerPoint, Back, BatchPoint, DequeuePoint, EnqueuePoint, Help, HelpPoint, ManyPoint, Point,
+    AnswerPoint, Back, BatchPoint, DequeuePoint, Draft, EnqueuePoint, Help, HelpPoint, Hold,
+    ManyPoint, Point,
 };
 use excess_count::Counts;
 use word_rows::{AnnField, Content, HeadWord, LinkWord, Location, Place};
 
-/// The help of an announcement of which nothing is read yet.
-pub fn help_of(ann: u32, back: Back) -> Help
-    ensures { result ≡ help_of ann back }
+/// The help of an announcement that was found in HEAD with this count, and of which nothing is read yet.
+pub fn help_of(ann: u32, count: u64, back: Back) -> Help
+    ensures { result ≡ help_of ann count back }
 {
     Help {
         ann,
-        old_head: Place { row: 0, count: 0 },
+        old_head: Place { row: 0, count },
         first: 0,
         last: 0,
         counts: Counts {
@@ -31,6 +32,20 @@ pub fn help_of(ann: u32, back: Back) -> Help
             excess: 0,
         },
         back,
+    }
+}
+
+/// The help of the own announcement, as it was written.
+pub fn own_help(draft: Draft) -> Help
+    ensures { result ≡ own_help draft }
+{
+    Help {
+        ann: draft.ann,
+        old_head: draft.notice.old_head,
+        first: draft.notice.first,
+        last: draft.notice.last,
+        counts: draft.notice.counts,
+        back: Back::Own,
     }
 }
 
@@ -162,7 +177,23 @@ fn back_point(help: Help, back: Back) -> Point
         Back::Enqueue(item) => Point::Enqueue(item, EnqueuePoint::LoadTail),
         Back::Dequeue => Point::Dequeue(DequeuePoint::LoadHead),
         Back::Batch(draft) => Point::Batch(draft, BatchPoint::LoadHead),
-        Back::Many(draft) => Point::Many(draft, ManyPoint::LoadHead),
+        Back::Many(plan) => Point::Many(plan, ManyPoint::LoadHead),
+    }
+}
+
+// It found this as it loaded HEAD a second time.
+fn after_head(help: Help, head: HeadWord) -> Course
+    ensures { result ≡ after_head help head }
+{
+    let expected = HeadWord::Ann {
+        ann: help.ann,
+        count: help.old_head.count,
+    };
+    if head == expected {
+        let point = Point::Help(help, HelpPoint::LoadOldHead);
+        Course::Guards(point, Hold::Held(help.ann))
+    } else {
+        Course::GoesOn(back_point(help, help.back))
     }
 }
 
@@ -179,12 +210,17 @@ fn after_walk(help: Help, values: u32, left: u32, link: LinkWord) -> Point
 }
 
 impl HelpPoint {
-    /// What the next step does with its word.
-    pub fn act(self, help: Help) -> Act
+    /// What the next step of this caller does with its word.
+    pub fn act(self, caller: u32, help: Help) -> Act
         requires { CountsFit (Point.Help help self) }
-        ensures { result ≡ act help self }
+        ensures { result ≡ act caller help self }
     {
         match self {
+            HelpPoint::StoreHazard => Act::Store(
+                Location::AnnHazard { caller },
+                Content::OfAnnHazard(Some(help.ann)),
+            ),
+            HelpPoint::LoadHead => Act::Load(Location::Head),
             HelpPoint::LoadOldHead => field_of(help.ann, AnnField::OldHead),
             HelpPoint::LoadFirst => field_of(help.ann, AnnField::First),
             HelpPoint::LoadLast => field_of(help.ann, AnnField::Last),
@@ -224,6 +260,11 @@ impl HelpPoint {
         ensures { result ≡ course help self found }
     {
         let point = match self {
+            HelpPoint::StoreHazard => {
+                let point = Point::Help(help, HelpPoint::LoadHead);
+                return Course::Guards(point, Hold::Names(help.ann));
+            }
+            HelpPoint::LoadHead => return after_head(help, head_in(found)),
             HelpPoint::LoadWalk { values, left, .. } => {
                 return Course::GoesOn(after_walk(help, values, left, link_in(found)));
             }
@@ -268,6 +309,8 @@ impl HelpPoint {
         ensures { result ≡ kind_of help self }
     {
         match self {
+            HelpPoint::StoreHazard => StepKind::StoreAnnHazard,
+            HelpPoint::LoadHead => StepKind::LoadHead,
             HelpPoint::LoadOldHead | HelpPoint::LoadFirst | HelpPoint::LoadLast => {
                 StepKind::LoadAnn
             }

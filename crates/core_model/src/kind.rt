@@ -46,6 +46,10 @@ pub enum StepKind {
     MoveTailOver,
     /// Exchanges HEAD from an announcement to the new dummy.
     MoveHeadAnn,
+    /// Stores the own ANN_HAZARD.
+    StoreAnnHazard,
+    /// Loads the ANN_HAZARD of another caller.
+    LoadHazard,
 }
 
 impl Point {
@@ -57,10 +61,12 @@ impl Point {
             Point::Idle => return None,
             Point::Enqueue(_, point) => point.kind(),
             Point::Dequeue(point) => point.kind(),
+            Point::Fill(_, point) => point.kind(),
             Point::Batch(_, point) => point.kind(),
             Point::Many(_, point) => point.kind(),
             Point::Help(help, point) => point.kind(help),
             Point::Answer(point) => point.kind(),
+            Point::Clear(_) => StepKind::StoreAnnHazard,
         })
     }
 }

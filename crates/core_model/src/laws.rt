@@ -1,5 +1,5 @@
 // Laws of the pure machine. Each is proved of every lane and every state; the functions do nothing.
-ghost use Rattle.std.specs.Prelude.{◌≡◌, ◌≢◌, ◌↔◌, ◌*◌, ◌<◌, ◌^◌, ◌++◌, ℕ, List, [], ◌∷◌, length, get_or, ◌≤◌, Some, None};
+ghost use Rattle.std.specs.Prelude.{◌≡◌, ◌≢◌, ◌⊎◌, ◌↔◌, ◌*◌, ◌<◌, ◌^◌, ◌++◌, ℕ, List, [], ◌∷◌, length, get_or, ◌≤◌, Some, None, false};
 ghost use Rattle.bq_model.specs.declared.group.Group.{Group};
 ghost use Rattle.bq_model.specs.declared.op.Op.{Op};
 ghost use Rattle.bq_model.specs.declared.shape.Shape.{Shape};
@@ -18,12 +18,20 @@ ghost use Rattle.core_model.specs.declared.point.Help.{Help};
 ghost use Rattle.core_model.specs.declared.point.Point.{Point};
 ghost use Rattle.core_model.specs.declared.point.HelpPoint.{HelpPoint};
 ghost use Rattle.core_model.specs.declared.point.Point.TheVariants.{Idle};
+ghost use Rattle.node_guard.specs.Pick.{among};
+ghost use Rattle.core_model.specs.declared.kind.StepKind.TheVariants.{StoreAnnHazard};
+ghost use Rattle.core_model.specs.declared.point.BatchPoint.{BatchPoint};
+ghost use Rattle.core_model.specs.declared.point.Draft.{Draft};
+ghost use Rattle.core_model.specs.declared.point.FillPoint.{FillPoint};
+ghost use Rattle.core_model.specs.declared.point.Notice.{Notice};
+ghost use Rattle.core_model.specs.Held.{HoldsAnn, BeginsHold, Untouched, chosen_by};
+ghost use Rattle.core_model.specs.Kind.{kind_of};
 ghost use Rattle.core_model.specs.Alone.{GoesOnOrEnds};
 ghost use Rattle.core_model.specs.Coded.{IsCoded};
 ghost use Rattle.core_model.specs.Ended.{EndedDone};
 ghost use Rattle.core_model.specs.Fits.{ActFits};
 ghost use Rattle.core_model.specs.LaneSizes.{LaneSizes, lane_sizes};
-ghost use Rattle.core_model.specs.Lawful.{Lawful};
+ghost use Rattle.core_model.specs.Lawful.{HelpsOwn, Lawful};
 ghost use Rattle.core_model.specs.Noted.{Begins, EndsFull, IsNoted};
 ghost use Rattle.core_model.specs.Once.{times};
 ghost use Rattle.core_model.specs.Ranges.{IsWord, CountsFit, NamesRows};
@@ -47,12 +55,12 @@ pub fn each_event_keeps_the_lane_lawful()
 pub fn a_step_is_its_callers_alone()
     ensures others { (z : LaneSizes) (s : State) (c d : ℕ) → d ≢ c → (next z s c).callers d ≡ s.callers d }
     ensures history { (z : LaneSizes) (s : State) (c : ℕ) → (next z s c).history
-        ≡ s.history ++ added_by z s.callers c (s.callers c).point (read s.memory (target (s.callers c).point)) }
+        ≡ s.history ++ added_by z s.callers c (s.callers c).point (read s.memory (target c (s.callers c).point)) }
     ensures own_command { (z : LaneSizes) (s : State) (c : ℕ) → GoesOnOrEnds c (s.callers c) ((next z s c).callers c) }
 {}
 
-/// A start keeps the given operations and the moment, and no more is told of its command; where a row or an announcement is
-/// lacking, the command ends with Full at once. A step leaves all this, or ends the command with Done, and its group joins
+/// A start keeps the given operations and the moment, and no more is told of its command; where a row is lacking,
+/// the command ends with Full at once. A step leaves all this, or ends the command with Done, and its group joins
 /// the caller's.
 pub fn starts_and_ends_are_noted()
     ensures begins { (z : LaneSizes) (s : State) (c : ℕ) (ops : List Op) → Lawful z s → IsCommand ops → (s.callers c).point ≡ Idle
@@ -64,7 +72,7 @@ pub fn starts_and_ends_are_noted()
 
 /// A step leaves every word but its own.
 pub fn a_step_stores_into_one_word()
-    ensures { (z : LaneSizes) (s : State) (c : ℕ) (l : Location) → l ≢ target (s.callers c).point → read (next z s c).memory l ≡ read s.memory l }
+    ensures { (z : LaneSizes) (s : State) (c : ℕ) (l : Location) → l ≢ target c (s.callers c).point → read (next z s c).memory l ≡ read s.memory l }
 {}
 
 /// An empty lane holds what its table opens with, and a row is its home's.
@@ -84,7 +92,8 @@ pub fn ended_commands_stand_in_the_history()
 {}
 
 /// A command of an idle caller ends with Full at once exactly where the caller's enqueues so far and the new ones are more
-/// than its item rows, or where it has several operations and the caller made as many such commands as it has announcements.
+/// than its item rows, or where it is of several dequeues alone and the caller made as many such commands as it has stoppers.
+/// It never lacks an announcement.
 pub fn full_comes_exactly_without_a_row()
     ensures { (z : LaneSizes) (s : State) (c : ℕ) (ops : List Op) → Lawful z s → IsCommand ops → (s.callers c).point ≡ Idle
         → ((begun z (length s.history) c (s.callers c) ops).point ≡ Idle) ↔ LacksRows z (mine s.history c) ops }
@@ -92,8 +101,8 @@ pub fn full_comes_exactly_without_a_row()
 
 /// In a lawful lane each step touches a word of the lane and finds in it what is in range, and no count passes the limit.
 pub fn counts_stay_in_range()
-    ensures word { (shape : Shape) (s : State) (c : ℕ) → Lawful (lane_sizes shape) s → IsWord (lane_sizes shape).rows ((lane_sizes shape).callers * (lane_sizes shape).callers) (target (s.callers c).point) }
-    ensures found { (shape : Shape) (s : State) (c : ℕ) → Lawful (lane_sizes shape) s → NamesRows (lane_sizes shape).rows (target (s.callers c).point) (read s.memory (target (s.callers c).point)) }
+    ensures word { (shape : Shape) (s : State) (c : ℕ) → Lawful (lane_sizes shape) s → IsWord (lane_sizes shape).rows (lane_sizes shape).callers ((lane_sizes shape).callers * (lane_sizes shape).callers) (target c (s.callers c).point) }
+    ensures found { (shape : Shape) (s : State) (c : ℕ) → Lawful (lane_sizes shape) s → NamesRows (lane_sizes shape).rows (target c (s.callers c).point) (read s.memory (target c (s.callers c).point)) }
     ensures raised { (shape : Shape) (s : State) (c : ℕ) → Lawful (lane_sizes shape) s → CountsFit (s.callers c).point }
     ensures tail { (shape : Shape) (s : State) → Lawful (lane_sizes shape) s → s.memory.tail.count < 2 ^ 44 }
     ensures head { (shape : Shape) (s : State) (p : Place) → Lawful (lane_sizes shape) s → s.memory.head ≡ Node p → p.count < 2 ^ 44 }
@@ -110,8 +119,8 @@ pub fn words_can_be_coded()
         → ¬ (PassesAllowance (lane_sizes shape) (s.callers c) (length ops)) → length ops ≤ shape.batch → ((j : ℕ) → get_or (enqueued ops) j 0 < 2 ^ 64)
         → IsCoded shape (start (lane_sizes shape) s c ops) }
     ensures found { (shape : Shape) (s : State) (c : ℕ) → Lawful (lane_sizes shape) s → IsCoded shape s
-        → MayHold shape (target (s.callers c).point) (read s.memory (target (s.callers c).point)) }
-    ensures stored { (shape : Shape) (s : State) (c : ℕ) → Lawful (lane_sizes shape) s → IsCoded shape s → ActFits shape (act (s.callers c).point) }
+        → MayHold shape (target c (s.callers c).point) (read s.memory (target c (s.callers c).point)) }
+    ensures stored { (shape : Shape) (s : State) (c : ℕ) → Lawful (lane_sizes shape) s → IsCoded shape s → ActFits shape (act c (s.callers c).point) }
 {}
 
 /// The words of a lawful lane show the last queue of its history, also while an announcement stands in HEAD.
@@ -130,4 +139,29 @@ pub fn announced_batch_is_its_owners()
         → (next z s c).history ≡ s.history ++ own_group (owner_of z h.ann) (s.callers (owner_of z h.ann)) ∷ [] }
     ensures decided { (z : LaneSizes) (s : State) (c : ℕ) (h : Help) (p : Place) → (s.callers c).point ≡ Point.Help h (HelpPoint.Decide p) → s.memory.old_tail h.ann ≡ None
         → (next z s c).history ≡ s.history ++ own_group (owner_of z h.ann) (s.callers (owner_of z h.ann)) ∷ [] }
+{}
+
+/// A caller holds an announcement from its second load of HEAD on, which found that there still, until it stores its hazard
+/// word again. While it does, its hazard word names it. No step of any caller gives it for a new use, or rewrites a word of
+/// it, but that OldTail is recorded once. An announcement of which a word is stored is the caller's own, and isn't in HEAD.
+/// What a caller has read in the hazard words of others stays right until its announcement is installed: nobody comes to
+/// hold one of its announcements, and nobody holds the one that it has chosen.
+pub fn held_announcements_are_left()
+    ensures begins { (z : LaneSizes) (s : State) (c a : ℕ) → Lawful z s → HoldsAnn ((next z s c).callers c) a → HoldsAnn (s.callers c) a ⊎ BeginsHold s c a }
+    ensures ends { (z : LaneSizes) (s : State) (c a : ℕ) → Lawful z s → HoldsAnn (s.callers c) a
+        → HoldsAnn ((next z s c).callers c) a ⊎ (kind_of (s.callers c).point ≡ Some StoreAnnHazard) }
+    ensures starts { (z : LaneSizes) (s : State) (c d : ℕ) (ops : List Op) → ((start z s c ops).callers d).hold ≡ (s.callers d).hold }
+    ensures named { (z : LaneSizes) (s : State) (c a : ℕ) → Lawful z s → HoldsAnn (s.callers c) a → s.memory.ann_hazard c ≡ Some a }
+    ensures left { (z : LaneSizes) (s : State) (c e a : ℕ) → Lawful z s → HoldsAnn (s.callers e) a → Untouched s.memory (next z s c).memory a }
+    ensures own { (z : LaneSizes) (s : State) (c n : ℕ) (d : Draft) (p : BatchPoint) → Lawful z s → (s.callers c).point ≡ Point.Batch d p
+        → (owner_of z d.ann ≡ c) × (s.memory.head ≢ Ann d.ann n) }
+    ensures not_given { (z : LaneSizes) (s : State) (c e : ℕ) (d : Draft) (p : BatchPoint) → Lawful z s → (s.callers c).point ≡ Point.Batch d p
+        → ¬ (HoldsAnn (s.callers e) d.ann) }
+    ensures kept { (z : LaneSizes) (s : State) (c e a : ℕ) → Lawful z s → chosen_by (s.callers c).point ≡ Some a → ¬ (HoldsAnn (s.callers e) a) }
+    ensures read { (z : LaneSizes) (s : State) (c d a : ℕ) (n : Notice) → Lawful z s → (s.callers c).point ≡ Point.Fill n (FillPoint.LoadHazard d)
+        → s.memory.ann_hazard d ≢ Some a → ¬ (HoldsAnn (s.callers d) a) }
+    ensures scan { (z : LaneSizes) (s : State) (c d e a : ℕ) (n : Notice) → Lawful z s → (s.callers c).point ≡ Point.Fill n (FillPoint.LoadHazard e)
+        → d < e → d ≢ c → owner_of z a ≡ c → among (s.callers c).named a ≡ false → ¬ (HoldsAnn (s.callers d) a) }
+    ensures stays { (z : LaneSizes) (s : State) (c d e a : ℕ) → Lawful z s → ¬ (HelpsOwn (s.callers c).point) → owner_of z a ≡ c
+        → ¬ (HoldsAnn (s.callers d) a) → ¬ (HoldsAnn ((next z s e).callers d) a) }
 {}

@@ -1,5 +1,6 @@
 // The points of a call: where its caller is, with its operands and what it has read.
 
+use bq_model::Answer;
 use excess_count::Counts;
 use word_rows::{AnnField, BatchNumber, Place};
 
@@ -40,6 +41,13 @@ pub struct Draft {
     pub notice: Notice,
 }
 
+/// What a batch of several dequeues and no enqueue is to say, and which announcement is to say it, once that is chosen.
+#[derive(Clone, Copy, Debug, PartialEq, Eq, Hash)]
+pub struct Plan {
+    pub ann: Option<u32>,
+    pub notice: Notice,
+}
+
 /// Where a helping caller goes on after the help.
 #[derive(Clone, Copy, Debug, PartialEq, Eq, Hash)]
 pub enum Back {
@@ -52,7 +60,7 @@ pub enum Back {
     /// With a batch of its own, which it has yet to install.
     Batch(Draft),
     /// With a batch of dequeues alone, which begins its walk again.
-    Many(Draft),
+    Many(Plan),
 }
 
 /// An announcement that a caller helps, as far as it has read it.
@@ -88,6 +96,10 @@ pub enum EnqueuePoint {
 /// Where a help is: the step that comes next.
 #[derive(Clone, Copy, Debug, PartialEq, Eq, Hash)]
 pub enum HelpPoint {
+    /// It names the announcement in its hazard word.
+    StoreHazard,
+    /// It loads the head a second time; where that is as before, it holds the announcement.
+    LoadHead,
     /// It loads OldHead.
     LoadOldHead,
     /// It loads the first row.
@@ -139,23 +151,32 @@ pub enum DequeuePoint {
     MoveHead { dummy: Place, row: u32, value: u64 },
 }
 
-/// Where the owner of a batch is, until its announcement is installed: the step that comes next.
+/// Where the owner of a batch is, until its announcement is chosen: the step that comes next.
 #[derive(Clone, Copy, Debug, PartialEq, Eq, Hash)]
-pub enum BatchPoint {
+pub enum FillPoint {
     /// It stores the value of its enqueue of this number into the row.
     StoreValue { number: u32, row: u32, value: u64 },
     /// It links its row of this number to the next one.
     StoreChain { number: u32, row: u32, next: u32 },
-    /// It stores a field of its announcement.
+    /// It loads the hazard word of another caller, to choose an announcement that none of them names.
+    LoadHazard { caller: u32 },
+}
+
+/// Where the owner of a batch is that has chosen its announcement, until this is installed: the step that comes next.
+#[derive(Clone, Copy, Debug, PartialEq, Eq, Hash)]
+pub enum BatchPoint {
+    /// It stores a field of its announcement, OldHead last.
     StoreField(AnnField),
+    /// It has no enqueue, and stores a field of its announcement, OldHead first.
+    StoreAll(AnnField),
     /// It loads the head.
     LoadHead,
     /// It installs its announcement.
     Install,
 }
 
-/// Where a batch of several dequeues and no enqueue is, until its announcement is installed: the step that comes next. Its
-/// draft has the dummy from which it walks.
+/// Where a batch of several dequeues and no enqueue is on its walk: the step that comes next. Its plan has the dummy from
+/// which it walks.
 #[derive(Clone, Copy, Debug, PartialEq, Eq, Hash)]
 pub enum ManyPoint {
     /// It loads the head.
@@ -176,8 +197,6 @@ pub enum ManyPoint {
     PassTail { tail: Place, row: u32 },
     /// It met a chain, and loads the head.
     LoadChained,
-    /// It found too few values, and stores a field of its announcement.
-    StoreField(AnnField),
 }
 
 /// Where the owner of a finished batch is: the step that comes next.
@@ -191,6 +210,26 @@ pub enum AnswerPoint {
     LoadValue { queued: u64, row: u32, left: u32 },
 }
 
+/// How the answers of a command are found that has taken effect.
+#[derive(Clone, Copy, Debug, PartialEq, Eq, Hash)]
+pub enum Closing {
+    /// The one answer of a plain call.
+    Plain(Answer),
+    /// Those of a batch, from the values that it has read, where so many were queued.
+    Batch(u64),
+}
+
+/// What the hazard word of a caller names, and whether the caller holds that.
+#[derive(Clone, Copy, Debug, PartialEq, Eq, Hash)]
+pub enum Hold {
+    /// It names nothing.
+    Free,
+    /// It names this announcement, which the caller doesn't hold.
+    Names(u32),
+    /// It names this announcement, and the caller holds it.
+    Held(u32),
+}
+
 /// Where a caller is in its command, with what it has read.
 #[derive(Clone, Copy, Debug, PartialEq, Eq, Hash)]
 pub enum Point {
@@ -200,14 +239,18 @@ pub enum Point {
     Enqueue(Item, EnqueuePoint),
     /// A dequeue.
     Dequeue(DequeuePoint),
+    /// A batch whose owner has yet to choose its announcement.
+    Fill(Notice, FillPoint),
     /// A batch that its owner has yet to install.
     Batch(Draft, BatchPoint),
     /// Several dequeues and no enqueue.
-    Many(Draft, ManyPoint),
+    Many(Plan, ManyPoint),
     /// A help.
     Help(Help, HelpPoint),
     /// The answers of a batch.
     Answer(AnswerPoint),
+    /// The command has taken effect, and its caller clears the hazard word that it stored.
+    Clear(Closing),
 }
 
 /// How a command ended.
@@ -215,6 +258,6 @@ pub enum Point {
 pub enum CallEnd {
     /// Its operations took effect.
     Done,
-    /// No row, or no announcement, was left for it, and nothing happened.
+    /// No row was left for it, and nothing happened.
     Full,
 }

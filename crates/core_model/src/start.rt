@@ -7,28 +7,20 @@ ghost use Rattle.excess_count.specs.Excess.{enqueue_count};
 ghost use Rattle.word_rows.specs.Sizes.{items_of, stoppers_of, rows_of};
 ghost use Rattle.core_model.specs.Batches.{notice_of};
 ghost use Rattle.core_model.specs.LaneSizes.{lane_sizes};
-ghost use Rattle.core_model.specs.Start.{IsCommand, anns_taken, stoppers_taken, chain_start, draft_of, first_point};
+ghost use Rattle.core_model.specs.Start.{IsCommand, stoppers_taken, chain_start, first_point};
 ghost use Rattle.core_model.specs.State.{Caller};
 
-use crate::point::{BatchPoint, DequeuePoint, Draft, EnqueuePoint, Item, ManyPoint, Notice, Point};
+use crate::point::{DequeuePoint, EnqueuePoint, FillPoint, Item, ManyPoint, Notice, Plan, Point};
 use bq_model::{Op, Shape};
 use excess_count::Counts;
-use word_rows::{BatchNumber, Place, item_row, order_word, own_ann, stopper_row};
+use word_rows::{BatchNumber, Place, item_row, order_word, stopper_row};
 
 /// How many stoppers a command of so many operations takes, so many of them enqueues.
 pub fn stoppers_taken(operations: usize, enqs: u32) -> u32
     ensures taken { (ops : List Op) → operations ≡ length ops → enqs ≡ enqueue_count ops → result ≡ stoppers_taken ops }
-    ensures no_more { (ops : List Op) → operations ≡ length ops → result ≤ anns_taken ops }
-{
-    if 1 < operations && enqs == 0 { 1 } else { 0 }
-}
-
-/// How many announcements a command of so many operations takes.
-pub fn anns_taken(operations: usize) -> u32
-    ensures taken { (ops : List Op) → operations ≡ length ops → result ≡ anns_taken ops }
     ensures one_at_most { result ≤ 1 }
 {
-    if 1 < operations { 1 } else { 0 }
+    if 1 < operations && enqs == 0 { 1 } else { 0 }
 }
 
 // What caller says of the operations, as the batch of this number, whose rows are those from the first on.
@@ -62,8 +54,6 @@ pub struct Stock {
     pub taken: u32,
     /// So many of its stoppers.
     pub stopped: u32,
-    /// So many of its announcements.
-    pub made: u32,
     /// The number of the group that it makes next.
     pub batch: u64,
 }
@@ -88,7 +78,7 @@ impl Stock {
     fn chain_start(self, shape: &Shape, caller: u32, enqs: u32) -> u32
         requires known { caller < shape.now.callers }
         requires rows { self.taken + enqs ≤ items_of shape.now }
-        requires stopper { self.stopped < stoppers_of shape.now }
+        requires stopper { enqs ≡ 0 → self.stopped < stoppers_of shape.now }
         ensures start { (k : Caller) → k.taken ≡ self.taken → k.stopped ≡ self.stopped → result ≡ chain_start (lane_sizes shape.now) caller k (enqs == 0) }
         ensures is_a_row { result < rows_of shape.now }
         ensures fits { result + enqs < 2 ^ 32 }
@@ -97,22 +87,6 @@ impl Stock {
             stopper_row(shape, caller, self.stopped)
         } else {
             item_row(shape, caller, self.taken)
-        }
-    }
-
-    // What the announcement of a batch is to say.
-    fn draft(self, shape: &Shape, caller: u32, ops: &[Op], counts: Counts) -> Draft
-        requires known { caller < shape.now.callers }
-        requires rows { self.taken + counts.enqs ≤ items_of shape.now }
-        requires stopper { self.stopped < stoppers_of shape.now }
-        requires ann { self.made < shape.now.callers }
-        requires counts { counts ≡ counts_of ops.now }
-        ensures { (k : Caller) → k.taken ≡ self.taken → k.stopped ≡ self.stopped → k.made ≡ self.made → length k.mine ≡ self.batch → result ≡ draft_of (lane_sizes shape.now) caller k ops.now }
-    {
-        let first = self.chain_start(shape, caller, counts.enqs);
-        Draft {
-            ann: own_ann(shape, caller, self.made),
-            notice: notice(caller, self.batch, first, ops, counts),
         }
     }
 
@@ -128,22 +102,22 @@ impl Stock {
         requires known { caller < shape.now.callers }
         requires many { 1 < length ops.now }
         requires rows { self.taken + counts.enqs ≤ items_of shape.now }
-        requires stopper { self.stopped < stoppers_of shape.now }
-        requires ann { self.made < shape.now.callers }
+        requires stopper { counts.enqs ≡ 0 → self.stopped < stoppers_of shape.now }
         requires counts { counts ≡ counts_of ops.now }
         requires puts { puts.now ≡ enqueued ops.now }
-        ensures { (k : Caller) → k.taken ≡ self.taken → k.stopped ≡ self.stopped → k.made ≡ self.made → length k.mine ≡ self.batch → result ≡ first_point (lane_sizes shape.now) caller k ops.now }
+        ensures { (k : Caller) → k.taken ≡ self.taken → k.stopped ≡ self.stopped → length k.mine ≡ self.batch → result ≡ first_point (lane_sizes shape.now) caller k ops.now }
     {
-        let draft = self.draft(shape, caller, ops, counts);
+        let first = self.chain_start(shape, caller, counts.enqs);
+        let notice = notice(caller, self.batch, first, ops, counts);
         if counts.enqs == 0 {
-            Point::Many(draft, ManyPoint::LoadHead)
+            Point::Many(Plan { ann: None, notice }, ManyPoint::LoadHead)
         } else {
-            let first = BatchPoint::StoreValue {
+            let filling = FillPoint::StoreValue {
                 number: 0,
-                row: draft.notice.first,
+                row: first,
                 value: puts.first().copied().unwrap_or(0),
             };
-            Point::Batch(draft, first)
+            Point::Fill(notice, filling)
         }
     }
 
@@ -159,11 +133,10 @@ impl Stock {
         requires known { caller < shape.now.callers }
         requires command { IsCommand ops.now }
         requires rows { self.taken + counts.enqs ≤ items_of shape.now }
-        requires stopper { self.stopped ≤ self.made }
-        requires anns { self.made + anns_taken ops.now ≤ shape.now.callers }
+        requires stopper { self.stopped + stoppers_taken ops.now ≤ stoppers_of shape.now }
         requires counts { counts ≡ counts_of ops.now }
         requires puts { puts.now ≡ enqueued ops.now }
-        ensures { (k : Caller) → k.taken ≡ self.taken → k.stopped ≡ self.stopped → k.made ≡ self.made → length k.mine ≡ self.batch → result ≡ first_point (lane_sizes shape.now) caller k ops.now }
+        ensures { (k : Caller) → k.taken ≡ self.taken → k.stopped ≡ self.stopped → length k.mine ≡ self.batch → result ≡ first_point (lane_sizes shape.now) caller k ops.now }
     {
         if ops.len() == 1 {
             self.plain(shape, caller, ops[0])

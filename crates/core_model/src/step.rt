@@ -11,19 +11,23 @@ use crate::point::{DequeuePoint, EnqueuePoint, HelpPoint, ManyPoint, Point};
 use word_rows::{Content, HeadWord, LinkWord, Location};
 
 impl Point {
-    /// What the next step does with its word.
-    pub fn act(self) -> Act
+    /// What the next step of this caller does with its word.
+    pub fn act(self, caller: u32) -> Act
         requires { CountsFit self }
-        ensures { result ≡ act self }
+        ensures { result ≡ act caller self }
     {
         match self {
             Point::Idle => Act::Load(Location::Head),
             Point::Enqueue(item, point) => point.act(item),
             Point::Dequeue(point) => point.act(),
+            Point::Fill(_, point) => point.act(),
             Point::Batch(draft, point) => point.act(draft),
-            Point::Many(draft, point) => point.act(draft),
-            Point::Help(help, point) => point.act(help),
+            Point::Many(plan, point) => point.act(plan),
+            Point::Help(help, point) => point.act(caller, help),
             Point::Answer(point) => point.act(),
+            Point::Clear(_) => {
+                Act::Store(Location::AnnHazard { caller }, Content::OfAnnHazard(None))
+            }
         }
     }
 
@@ -36,10 +40,12 @@ impl Point {
             Point::Idle => Course::GoesOn(Point::Idle),
             Point::Enqueue(item, point) => point.course(item, found),
             Point::Dequeue(point) => point.course(found),
+            Point::Fill(notice, point) => point.course(notice, found),
             Point::Batch(draft, point) => point.course(draft, found),
-            Point::Many(draft, point) => point.course(draft, found),
+            Point::Many(plan, point) => point.course(plan, found),
             Point::Help(help, point) => point.course(help, found),
             Point::Answer(point) => point.course(found),
+            Point::Clear(closing) => Course::Clears(closing),
         }
     }
 
@@ -54,8 +60,8 @@ impl Point {
                 head_in(found) == HeadWord::Node(dummy)
             }
             Point::Many(_, ManyPoint::LoadDummy) => link_in(found) == LinkWord::Nil,
-            Point::Many(draft, ManyPoint::MoveHead { .. }) => {
-                head_in(found) == HeadWord::Node(draft.notice.old_head)
+            Point::Many(plan, ManyPoint::MoveHead { .. }) => {
+                head_in(found) == HeadWord::Node(plan.notice.old_head)
             }
             Point::Help(_, HelpPoint::LinkChain(_)) => link_in(found) == LinkWord::Nil,
             Point::Help(_, HelpPoint::Decide(_)) => old_tail_in(found).is_none(),

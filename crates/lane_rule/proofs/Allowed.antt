@@ -22,12 +22,12 @@ use Rattle.core_model.specs.Lawful.{Lawful}
 use Rattle.core_model.proofs.Puts.{put_here, put_else}
 use Rattle.core_model.proofs.Steps.{preserves_at}
 use Rattle.core_model.proofs.CodedSteps.{step_writes}
-use Rattle.core_model.proofs.ReadValues.{values_fit, walked_fit}
+use Rattle.core_model.proofs.ReadValues.{values_fit, walked_fit, named_fit}
 use Rattle.lane_rule.specs.declared.view.View.{View}
 use Rattle.lane_rule.specs.declared.view.Held.{Held}
 use Rattle.lane_rule.specs.declared.view.Kind.{Kind}
 use Rattle.lane_rule.specs.declared.view.Kind.TheVariants.{Maker, Alone, Gathered, Spent}
-use Rattle.lane_rule.specs.Rule.{kept_of, Begins, Runs, AllHeld, SitsAs, Sits, Ruled}
+use Rattle.lane_rule.specs.Rule.{caller_of, kept_of, Begins, Runs, AllHeld, SitsAs, Sits, Ruled}
 use Rattle.lane_rule.specs.Goes.{Ready, Goes}
 use Rattle.lane_rule.proofs.Ready.{ready, found_at, coded_at, grew, knows}
 
@@ -64,16 +64,16 @@ module _ (key : Shape) (slots id : ℕ) (me : Me ℕ View) (alone : me.0.kind �
 
   module _ (s : table.State ℕ View) (r : Ruled key s) (here : get_elem? s.views id ≡ some me.0) where
     abbrev x : Content
-    x = read r.core.memory (target me.0.kept.point)
+    x = read r.core.memory (target me.0.caller me.0.kept.point)
 
     abbrev core' : State
     core' = step_at z r.core me.0.caller me.0.kept.point
 
     abbrev h' : List Group
-    h' = history_with z r.core me.0.caller me.0.kept.point (read r.core.memory (target me.0.kept.point))
+    h' = history_with z r.core me.0.caller me.0.kept.point (read r.core.memory (target me.0.caller me.0.kept.point))
 
     abbrev k' : Caller
-    k' = after (length h') me.0.caller (r.core.callers me.0.caller) me.0.kept.point x
+    k' = after z (length h') me.0.caller (r.core.callers me.0.caller) me.0.kept.point x
 
     abbrev w : View
     w = record me.0 { kept = kept_of k'; seen = h'; gathered = []; heard = [] }
@@ -93,16 +93,16 @@ module _ (key : Shape) (slots id : ℕ) (me : Me ℕ View) (alone : me.0.kind �
     codable' : IsCoded key core'
     codable' = coded_at key r.core r.lawful r.codable me.0.caller me.0.kept.point point_is
 
-    is_ready : Ready key me.0.kept.point
-    is_ready = subst (Ready key) point_is (ready key r.core r.lawful r.codable me.0.caller)
+    is_ready : Ready key me.0.caller me.0.kept.point
+    is_ready = subst (Ready key me.0.caller) point_is (ready key r.core r.lawful r.codable me.0.caller)
 
-    found_word : get_or s.words (index_of key (target me.0.kept.point)) 0 ≡ coded x
-    found_word = r.shows.each (target me.0.kept.point) is_ready.word
+    found_word : get_or s.words (index_of key (target me.0.caller me.0.kept.point)) 0 ≡ coded x
+    found_word = r.shows.each (target me.0.caller me.0.kept.point) is_ready.word
 
-    new_words : (n : ℕ) → n ≡ coded (stored me.0.kept.point x) → Shows key (set s.words (index_of key (target me.0.kept.point)) n) (read core'.memory)
-    new_words n is = subst (λ (y : ℕ). Shows key (set s.words (index_of key (target me.0.kept.point)) y) (read core'.memory)) (sym is)
-        (Shows-words_after key s.words (read r.core.memory) (read core'.memory) (target me.0.kept.point) (stored me.0.kept.point x) r.shows is_ready.word
-        (step_writes r.core.memory me.0.kept.point))
+    new_words : (n : ℕ) → n ≡ coded (stored me.0.caller me.0.kept.point x) → Shows key (set s.words (index_of key (target me.0.caller me.0.kept.point)) n) (read core'.memory)
+    new_words n is = subst (λ (y : ℕ). Shows key (set s.words (index_of key (target me.0.caller me.0.kept.point)) y) (read core'.memory)) (sym is)
+        (Shows-words_after key s.words (read r.core.memory) (read core'.memory) (target me.0.caller me.0.kept.point) (stored me.0.caller me.0.kept.point x) r.shows is_ready.word
+        (step_writes r.core.memory me.0.caller me.0.kept.point))
 
     here' : core'.callers me.0.caller ≡ k'
     here' = put_here r.core.callers me.0.caller k'
@@ -119,7 +119,7 @@ module _ (key : Shape) (slots id : ℕ) (me : Me ℕ View) (alone : me.0.kind �
         (λ (p : (j ≢ id) × (get_elem? s.views j ≡ some u)). sits_stay key r.core core' r.seat j (added_by z r.core.callers me.0.caller me.0.kept.point x)
         (λ d at. put_else r.core.callers me.0.caller k' d (λ e. p.0 (sym at ∙ (ap r.seat e ∙ sits.alone)))) grows u.kind u (r.each_seat j u p.1)) (at_set s.views id j w u e)
 
-    steps : (n : ℕ) → n ≡ coded (stored me.0.kept.point x) → Ruled key (stepped s (index_of key (target me.0.kept.point)) n id me.1 w keeps)
+    steps : (n : ℕ) → n ≡ coded (stored me.0.caller me.0.kept.point x) → Ruled key (stepped s (index_of key (target me.0.caller me.0.kept.point)) n id me.1 w keeps)
     steps n is = record {
       core = core';
       lawful = lawful';
@@ -133,25 +133,26 @@ module _ (key : Shape) (slots id : ℕ) (me : Me ℕ View) (alone : me.0.kind �
     goes : Goes me.0 x w
     goes = record {
       alone = alone;
-      next = ap (λ (k : Caller). after (length h') me.0.caller k me.0.kept.point x) sits.shown;
+      next = subst (λ (y : Shape). k' ≡ after (lane_sizes y) (length h') me.0.caller (caller_of me.0.kept) me.0.kept.point x) (sym sits.planned) (ap (λ (k : Caller). after z (length h') me.0.caller k me.0.kept.point x) sits.shown);
       same = refl;
       shape = refl;
       later = (sits.begins.0 ++ added_by z r.core.callers me.0.caller me.0.kept.point x, grows ∙ ap (λ (h : List Group). h ++ added_by z r.core.callers me.0.caller me.0.kept.point x) sits.begins.1 ∙ append_assoc me.0.seen sits.begins.0 (added_by z r.core.callers me.0.caller me.0.kept.point x));
       heard = refl;
-      found = subst (λ (p : Shape). MayHold p (target me.0.kept.point) x) (sym sits.planned) (found_at key r.core r.lawful r.codable me.0.caller me.0.kept.point point_is);
-      ready = subst (λ (p : Shape). Ready p k'.point) (sym sits.planned) (subst (λ (k : Caller). Ready key k.point) here' (ready key core' lawful' codable' me.0.caller));
+      found = subst (λ (p : Shape). MayHold p (target me.0.caller me.0.kept.point) x) (sym sits.planned) (found_at key r.core r.lawful r.codable me.0.caller me.0.kept.point point_is);
+      ready = subst (λ (p : Shape). Ready p me.0.caller k'.point) (sym sits.planned) (subst (λ (k : Caller). Ready key me.0.caller k.point) here' (ready key core' lawful' codable' me.0.caller));
       knows = knows key core' lawful' w sits.planned refl here';
       reads = λ m r l is. subst (λ (k : Caller). length k.values < length k.ops) here' (values_fit z core' lawful' me.0.caller m r l (ap (λ (k : Caller). k.point) here' ∙ is));
       walks = λ d r l is. subst (λ (k : Caller). length k.values < length k.ops) here' (walked_fit z core' lawful' me.0.caller d r l (ap (λ (k : Caller). k.point) here' ∙ is));
+      hears = λ n e is. subst (λ (y : Shape × Caller). (e < y.0.callers) × (suc (length y.1.named) < y.0.callers)) (λ i. (sym sits.planned i, here' i)) (named_fit z core' lawful' me.0.caller n e (ap (λ (k : Caller). k.point) here' ∙ is));
     }
 
   -- the step is allowed where it writes what the machine stores
-  pub allows : (f : ℕ → ℕ) (then : ℕ → Me ℕ View → Type 0) → me.0.shape ≡ key → ((x : Content) → MayHold key (target me.0.kept.point) x → f (coded x) ≡ coded (stored me.0.kept.point x))
-      → ((x : Content) (w : View) → Goes me.0 x w → then (coded x) (w, me.1)) → Allows (Ruled key) slots id me (index_of key (target me.0.kept.point)) f then
+  pub allows : (f : ℕ → ℕ) (then : ℕ → Me ℕ View → Type 0) → me.0.shape ≡ key → ((x : Content) → MayHold key (target me.0.caller me.0.kept.point) x → f (coded x) ≡ coded (stored me.0.caller me.0.kept.point x))
+      → ((x : Content) (w : View) → Goes me.0 x w → then (coded x) (w, me.1)) → Allows (Ruled key) slots id me (index_of key (target me.0.caller me.0.kept.point)) f then
   allows f then planned writes tells s r _ here _ = let g = goes s r here in let found = found_word s r here in (
     w s r here,
     keeps,
     tt,
-    steps s r here (f (get_or s.words (index_of key (target me.0.kept.point)) 0)) (ap f found ∙ writes (x s r here) (subst (λ (p : Shape). MayHold p (target me.0.kept.point) (x s r here)) planned g.found)),
+    steps s r here (f (get_or s.words (index_of key (target me.0.caller me.0.kept.point)) 0)) (ap f found ∙ writes (x s r here) (subst (λ (p : Shape). MayHold p (target me.0.caller me.0.kept.point) (x s r here)) planned g.found)),
     subst (λ (n : ℕ). then n (w s r here, me.1)) (sym found) (tells (x s r here) (w s r here) g),
   )

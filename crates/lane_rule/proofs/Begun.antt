@@ -98,14 +98,14 @@ module _ (key : Shape) (s : table.State ℕ View) (r : Ruled key s) (id : ℕ) (
   pub seen_less : length v.seen ≤ n
   seen_less = let e = ap (λ (h : List Group). length h) sits.begins.1 in let all = length-append v.seen sits.begins.0 in omega arith
 
-module _ (key : Shape) (slots id : ℕ) (me : Me ℕ View) (ops : List Op) (alone : me.0.kind ≡ Alone) (planned : me.0.shape ≡ key) (may : MayStart me.0 ops) (t : Point) (point : (n : ℕ) → (begun me.0 n ops).kept.point ≡ t) where
-  pub first_allowed : (f : ℕ → ℕ) (then : ℕ → Me ℕ View → Type 0) → ((x : Content) → MayHold key (target t) x → f (coded x) ≡ coded (stored t x))
-      → ((n : ℕ) (x : Content) (w : View) → length me.0.seen ≤ n → Goes (begun me.0 n ops) x w → then (coded x) (w, me.1)) → Allows (Ruled key) slots id me (index_of key (target t)) f then
+module _ (key : Shape) (slots id : ℕ) (me : Me ℕ View) (ops : List Op) (alone : me.0.kind ≡ Alone) (planned : me.0.shape ≡ key) (may : MayStart me.0 ops) (c : ℕ) (of : me.0.caller ≡ c) (t : Point) (point : (n : ℕ) → (begun me.0 n ops).kept.point ≡ t) where
+  pub first_allowed : (f : ℕ → ℕ) (then : ℕ → Me ℕ View → Type 0) → ((x : Content) → MayHold key (target c t) x → f (coded x) ≡ coded (stored c t x))
+      → ((n : ℕ) (x : Content) (w : View) → length me.0.seen ≤ n → Goes (begun me.0 n ops) x w → then (coded x) (w, me.1)) → Allows (Ruled key) slots id me (index_of key (target c t)) f then
   first_allowed f then writes tells s r len at lt =
       let n : ℕ = length r.core.history in
       let first : Me ℕ View = (begun me.0 n ops, me.1) in
       let less : length me.0.seen ≤ n = seen_less key s r id me.0 at ops alone may in
-      let a : Allows (Ruled key) slots id first (index_of key (target t)) f then = subst (λ (u : Point). Allows (Ruled key) slots id first (index_of key (target u)) f then) (point n)
-      (allows key slots id first alone f then planned (subst (λ (u : Point). (x : Content) → MayHold key (target u) x → f (coded x) ≡ coded (stored u x)) (sym (point n)) writes) (λ x w g. tells n x w less g)) in
+      let a : Allows (Ruled key) slots id first (index_of key (target c t)) f then = subst (λ (u : ℕ × Point). Allows (Ruled key) slots id first (index_of key (target u.0 u.1)) f then) (λ j. (of j, point n j))
+      (allows key slots id first alone f then planned (subst (λ (u : ℕ × Point). (x : Content) → MayHold key (target u.0 u.1) x → f (coded x) ≡ coded (stored u.0 u.1 x)) (λ j. (sym of j, sym (point n) j)) writes) (λ x w g. tells n x w less g)) in
       let y = a record { words = s.words; homes = s.homes; views = set s.views id first.0 } (start_ruled key s r id me.0 at ops alone may) len (set_there s.views id me.0 first.0 at) lt in
-      (y.0, y.1, y.2, subst (λ (vs : List View). Ruled key record { words = set s.words (index_of key (target t)) (f (get_or s.words (index_of key (target t)) 0)); homes = homes_after s.homes me.1 y.1; views = vs }) (set-set s.views id first.0 y.0) y.3, y.4)
+      (y.0, y.1, y.2, subst (λ (vs : List View). Ruled key record { words = set s.words (index_of key (target c t)) (f (get_or s.words (index_of key (target c t)) 0)); homes = homes_after s.homes me.1 y.1; views = vs }) (set-set s.views id first.0 y.0) y.3, y.4)

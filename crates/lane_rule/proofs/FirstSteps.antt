@@ -31,55 +31,59 @@ use Rattle.lane_rule.proofs.Effects.{loaded, written}
 use Rattle.lane_rule.proofs.Begun.{first_allowed}
 use Rattle.lane_rule.proofs.Single.{read_back}
 
-module _ (id : TableId) (key s : Shape) (ops : List Op) (t : Point) (p : Seat ℕ View) (at : IsIdle id key s ops t p) where
-  here : (i : ℕ) (l : Location) → i ≡ index_of s l → l ≡ target t → i ≡ index_of key (target t)
+module _ (id : TableId) (key s : Shape) (c : ℕ) (ops : List Op) (t : Point) (p : Seat ℕ View) (at : IsIdle id key s c ops t p) where
+  here : (i : ℕ) (l : Location) → i ≡ index_of s l → l ≡ target c t → i ≡ index_of key (target c t)
   here i l is on = is ∙ (λ j. index_of (at.shape j) (on j))
 
-  inside : (i : ℕ) (l : Location) → i ≡ index_of s l → l ≡ target t → i < id.words
-  inside i l is on = let size = at.size in let e = here i l is on in let below = index_of-lt key (target t) at.ready.word in omega arith
+  inside : (i : ℕ) (l : Location) → i ≡ index_of s l → l ≡ target c t → i < id.words
+  inside i l is on = let size = at.size in let e = here i l is on in let below = index_of-lt key (target c t) at.ready.word in omega arith
 
-  pub first_on : (a : Act) → act t ≡ a → location a ≡ target t
+  pub first_on : (a : Act) → act c t ≡ a → location a ≡ target c t
   first_on a by = ap location (sym by)
 
-  pub first_valid : (a : Act) → act t ≡ a → IsValid s (location a)
+  pub first_valid : (a : Act) → act c t ≡ a → IsValid s (location a)
   first_valid a by = subst (λ (y : Shape × Location). IsValid y.0 y.1) (λ j. (sym at.shape j, sym (first_on a by) j)) at.ready.word
 
   point_is : (n : ℕ) → (begun p.me.0 n ops).kept.point ≡ t
-  point_is n = ap (λ (z : Shape). first_point (lane_sizes z) p.me.0.caller (caller_of p.me.0.kept) ops) at.planned ∙ at.point
+  point_is n = (λ j. first_point (lane_sizes (at.planned j)) (at.caller j) (caller_of p.me.0.kept) ops) ∙ at.point
 
-  pub first_load_owes : (i : ℕ) (l : Location) → i ≡ index_of s l → act t ≡ Load l
+  -- the first step of the view's caller is that of the caller at the point
+  its_word : (m : ℕ) → target c t ≡ target p.me.0.caller (begun p.me.0 m ops).kept.point
+  its_word m = λ j. target (sym at.caller j) (sym (point_is m) j)
+
+  pub first_load_owes : (i : ℕ) (l : Location) → i ≡ index_of s l → act c t ≡ Load l
       → (p.table_id ≡ id) × (i < id.words) × Allows (Ruled key) id.slots p.id p.me i (λ n. n) (began ops (step id.slots i 0 0 none) p.me)
   first_load_owes i l is by = let on = first_on (Load l) by in (
     at.table,
     inside i l is on,
     subst (λ (j : ℕ). Allows (Ruled key) id.slots p.id p.me j (λ n. n) (began ops (step id.slots j 0 0 none) p.me)) (sym (here i l is on))
-        (first_allowed key id.slots p.id p.me ops at.alone at.planned at.may t point_is (λ n. n) (began ops (step id.slots (index_of key (target t)) 0 0 none) p.me)
-        (λ x m. sym (ap coded (loaded t l x by))) (λ n x w less g. (n, less, x, refl, g, refl))),
+        (first_allowed key id.slots p.id p.me ops at.alone at.planned at.may c at.caller t point_is (λ n. n) (began ops (step id.slots (index_of key (target c t)) 0 0 none) p.me)
+        (λ x m. sym (ap coded (loaded c t l x by))) (λ n x w less g. (n, less, x, refl, g, refl))),
   )
 
-  pub first_store_owes : (i : ℕ) (l : Location) (y : Content) (n : ℕ) → i ≡ index_of s l → act t ≡ Store l y → n ≡ coded y
+  pub first_store_owes : (i : ℕ) (l : Location) (y : Content) (n : ℕ) → i ≡ index_of s l → act c t ≡ Store l y → n ≡ coded y
       → (p.table_id ≡ id) × (i < id.words) × Allows (Ruled key) id.slots p.id p.me i (λ _. n) (λ _. began_store ops (step id.slots i n 0 none) p.me n)
   first_store_owes i l y n is by packed = let on = first_on (Store l y) by in (
     at.table,
     inside i l is on,
     subst (λ (j : ℕ). Allows (Ruled key) id.slots p.id p.me j (λ _. n) (λ _. began_store ops (step id.slots i n 0 none) p.me n)) (sym (here i l is on))
-        (first_allowed key id.slots p.id p.me ops at.alone at.planned at.may t point_is (λ _. n) (λ _. began_store ops (step id.slots i n 0 none) p.me n)
-        (λ x m. packed ∙ sym (ap coded (written t l x y by))) (λ k x w less g. (k, less, x, g, refl))),
+        (first_allowed key id.slots p.id p.me ops at.alone at.planned at.may c at.caller t point_is (λ _. n) (λ _. began_store ops (step id.slots i n 0 none) p.me n)
+        (λ x m. packed ∙ sym (ap coded (written c t l x y by))) (λ k x w less g. (k, less, x, g, refl))),
   )
 
-  pub first_packs : (l : Location) (y : Content) → act t ≡ Store l y → Fits coding_limits y
+  pub first_packs : (l : Location) (y : Content) → act c t ≡ Store l y → Fits coding_limits y
   first_packs l y by = Fits-coding key y (subst (ActFits key) by at.ready.fits).1
 
-  reads : (m : ℕ) (x : Content) (q : View) → Goes (begun p.me.0 m ops) x q → (l : Location) → l ≡ target t → (n : ℕ) (o : Option Content) → ReadsBack (CanCode l) coded n o → n ≡ coded x → o ≡ Some x
-  reads m x q g l on n o back is = read_back p.me.0.shape (begun p.me.0 m ops).kept.point x n o (subst (λ (k : Location). ReadsBack (CanCode k) coded n o) (on ∙ ap target (sym (point_is m))) back) is g.found
+  reads : (m : ℕ) (x : Content) (q : View) → Goes (begun p.me.0 m ops) x q → (l : Location) → l ≡ target c t → (n : ℕ) (o : Option Content) → ReadsBack (CanCode l) coded n o → n ≡ coded x → o ≡ Some x
+  reads m x q g l on n o back is = read_back p.me.0.shape p.me.0.caller (begun p.me.0 m ops).kept.point x n o (subst (λ (k : Location). ReadsBack (CanCode k) coded n o) (on ∙ its_word m) back) is g.found
 
-  pub first_read : (l : Location) (n : ℕ) (o : Option Content) (m : Me ℕ View) → (k : ℕ) × (length p.me.0.seen ≤ k) × (x : Content) × (n ≡ coded x) × Goes (begun p.me.0 k ops) x m.0 × (m.1 ≡ p.me.1) → l ≡ target t → ReadsBack (CanCode l) coded n o → IsSome o
+  pub first_read : (l : Location) (n : ℕ) (o : Option Content) (m : Me ℕ View) → (k : ℕ) × (length p.me.0.seen ≤ k) × (x : Content) × (n ≡ coded x) × Goes (begun p.me.0 k ops) x m.0 × (m.1 ≡ p.me.1) → l ≡ target c t → ReadsBack (CanCode l) coded n o → IsSome o
   first_read l n o m f on back = subst IsSome (sym (reads f.0 f.2 m.0 f.4 l on n o back f.3)) (some f.2) where
     some : (y : Content) → IsSome (Some y)
     some y = refl
 
   pub first_moved : (q : Seat ℕ View) (l : Location) (n : ℕ) (o : Option Content) (r : Content) → (q.table_id ≡ p.table_id) × (q.id ≡ p.id) × ((k : ℕ) × (length p.me.0.seen ≤ k) × (x : Content) × (n ≡ coded x) × Goes (begun p.me.0 k ops) x q.me.0 × (q.me.1 ≡ p.me.1))
-      → l ≡ target t → ReadsBack (CanCode l) coded n o → o ≡ Some r → Starts p ops r q
+      → l ≡ target c t → ReadsBack (CanCode l) coded n o → o ≡ Some r → Starts p ops r q
   first_moved q l n o r f on back is = let b = f.2 in (f.0, f.1, (b.0, b.1, subst (λ (x : Content). Goes (begun p.me.0 b.0 ops) x q.me.0) (same b.2 (sym (reads b.0 b.2 q.me.0 b.4 l on n o back b.3) ∙ is)) b.4), b.5) where
     same : (y : Content) → Some y ≡ Some r → y ≡ r
     same y e = cc e

@@ -26,7 +26,7 @@ module _ (key : Shape) (s : State) (L : Lawful (lane_sizes key) s) (R : IsCoded 
   abbrev z : LaneSizes
   z = lane_sizes key
 
-  pub ready : Ready key (s.callers c).point
+  pub ready : Ready key c (s.callers c).point
   ready = let most = rows_within key in record {
     word = point_valid key s L R c;
     rows = rows_fit z s L (omega arith) c;
@@ -35,8 +35,8 @@ module _ (key : Shape) (s : State) (L : Lawful (lane_sizes key) s) (R : IsCoded 
   }
 
   module _ (t : Point) (is : (s.callers c).point ≡ t) where
-    pub found_at : MayHold key (target t) (read s.memory (target t))
-    found_at = subst (λ (u : Point). MayHold key (target u) (read s.memory (target u))) is (found_fits key s L R c)
+    pub found_at : MayHold key (target c t) (read s.memory (target c t))
+    found_at = subst (λ (u : Point). MayHold key (target c u) (read s.memory (target c u))) is (found_fits key s L R c)
 
     pub coded_at : IsCoded key (step_at (lane_sizes key) s c t)
     unfolding next
@@ -66,7 +66,7 @@ pub knows : (key : Shape) (s : State) → Lawful (lane_sizes key) s → (w : Vie
 knows key s L w shape seen shown = record {
   proper = subst (λ (y : Shape × List Group). IsProper y.0.callers y.1) (λ i. (sym shape i, sym seen i)) L.history;
   own = λ idle. ap (λ (h : List Group). mine h w.caller) seen ∙ (idle_groups (lane_sizes key) s L w.caller (ap (λ (k : Caller). k.point) shown ∙ idle) ∙ ap (λ (k : Caller). k.mine) shown);
-  allowed = subst (λ (y : Shape × Caller). Allowed (lane_sizes y.0) y.1.mine y.1.ops y.1.taken y.1.stopped y.1.made) (λ i. (sym shape i, shown i)) (L.callers w.caller).allowed;
+  allowed = subst (λ (y : Shape × Caller). Allowed (lane_sizes y.0) y.1.mine y.1.ops y.1.taken y.1.stopped) (λ i. (sym shape i, shown i)) (L.callers w.caller).allowed;
   done = λ idle is. subst (λ (y : Shape × List Group × Caller). EndedDone record { memory = (opening (lane_sizes y.0)).memory; history = y.1; callers = λ _. y.2 } w.caller) (λ i. (sym shape i, sym seen i, shown i))
       (seen_ended s (lane_sizes key) w.caller (ended_done (lane_sizes key) s L w.caller (ap (λ (k : Caller). k.point) shown ∙ idle) (ap (λ (k : Caller). k.outcome) shown ∙ is)));
 }

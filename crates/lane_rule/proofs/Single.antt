@@ -22,26 +22,26 @@ use Rattle.lane_rule.proofs.Effects.{loaded, written, exchanged}
 use Rattle.lane_rule.proofs.Allowed.{allows}
 
 module _ (key : Shape) (slots id : ℕ) (me : Me ℕ View) (alone : me.0.kind ≡ Alone) (planned : me.0.shape ≡ key) where
-  pub load_allowed : (l : Location) → act me.0.kept.point ≡ Load l → Allows (Ruled key) slots id me (index_of key (target me.0.kept.point)) (λ n. n) (found (step slots (index_of key (target me.0.kept.point)) 0 0 none) me)
-  load_allowed l is = allows key slots id me alone (λ n. n) (found (step slots (index_of key (target me.0.kept.point)) 0 0 none) me) planned
-      (λ x m. sym (ap coded (loaded me.0.kept.point l x is))) (λ x w g. (x, refl, g, refl))
+  pub load_allowed : (l : Location) → act me.0.caller me.0.kept.point ≡ Load l → Allows (Ruled key) slots id me (index_of key (target me.0.caller me.0.kept.point)) (λ n. n) (found (step slots (index_of key (target me.0.caller me.0.kept.point)) 0 0 none) me)
+  load_allowed l is = allows key slots id me alone (λ n. n) (found (step slots (index_of key (target me.0.caller me.0.kept.point)) 0 0 none) me) planned
+      (λ x m. sym (ap coded (loaded me.0.caller me.0.kept.point l x is))) (λ x w g. (x, refl, g, refl))
 
-  pub store_allowed : (l : Location) (y : Content) (n : ℕ) → act me.0.kept.point ≡ Store l y → n ≡ coded y → (st : Step ℕ) → Allows (Ruled key) slots id me (index_of key (target me.0.kept.point)) (λ _. n) (λ _. wrote st me n)
+  pub store_allowed : (l : Location) (y : Content) (n : ℕ) → act me.0.caller me.0.kept.point ≡ Store l y → n ≡ coded y → (st : Step ℕ) → Allows (Ruled key) slots id me (index_of key (target me.0.caller me.0.kept.point)) (λ _. n) (λ _. wrote st me n)
   store_allowed l y n is packed st = allows key slots id me alone (λ _. n) (λ _. wrote st me n) planned
-      (λ x m. packed ∙ sym (ap coded (written me.0.kept.point l x y is))) (λ x w g. (x, g, refl))
+      (λ x m. packed ∙ sym (ap coded (written me.0.caller me.0.kept.point l x y is))) (λ x w g. (x, g, refl))
 
-  swaps : (l : Location) (e y x : Content) → MayHold key (target me.0.kept.point) x → MayHold key (target me.0.kept.point) e → act me.0.kept.point ≡ Exchange l e y
-      → (b : Bool) → eqb (coded x) (coded e) ≡ b → either b (coded y) (coded x) ≡ coded (stored me.0.kept.point x)
-  swaps l e y x mx me' is true same = sym (ap coded ((exchanged me.0.kept.point l x e y is).0 (MayHold-once key (target me.0.kept.point) x e mx me' (eqb-true (coded x) (coded e) same))))
-  swaps l e y x mx me' is false other = sym (ap coded ((exchanged me.0.kept.point l x e y is).1 (λ same. differ (sym (eq-eqb (coded x) (coded e) (ap coded same)) ∙ other)))) where
+  swaps : (l : Location) (e y x : Content) → MayHold key (target me.0.caller me.0.kept.point) x → MayHold key (target me.0.caller me.0.kept.point) e → act me.0.caller me.0.kept.point ≡ Exchange l e y
+      → (b : Bool) → eqb (coded x) (coded e) ≡ b → either b (coded y) (coded x) ≡ coded (stored me.0.caller me.0.kept.point x)
+  swaps l e y x mx me' is true same = sym (ap coded ((exchanged me.0.caller me.0.kept.point l x e y is).0 (MayHold-once key (target me.0.caller me.0.kept.point) x e mx me' (eqb-true (coded x) (coded e) same))))
+  swaps l e y x mx me' is false other = sym (ap coded ((exchanged me.0.caller me.0.kept.point l x e y is).1 (λ same. differ (sym (eq-eqb (coded x) (coded e) (ap coded same)) ∙ other)))) where
     differ : true ≡ false → ⊥
     differ z = cc z
 
-  pub exchange_allowed : (l : Location) (e y : Content) (old new : ℕ) → act me.0.kept.point ≡ Exchange l e y → MayHold key (target me.0.kept.point) e → old ≡ coded e → new ≡ coded y
-      → Allows (Ruled key) slots id me (index_of key (target me.0.kept.point)) (λ n. either (eqb n old) new n) (found (step slots (index_of key (target me.0.kept.point)) old new none) me)
-  exchange_allowed l e y old new is fits packed packed' = allows key slots id me alone (λ n. either (eqb n old) new n) (found (step slots (index_of key (target me.0.kept.point)) old new none) me) planned
+  pub exchange_allowed : (l : Location) (e y : Content) (old new : ℕ) → act me.0.caller me.0.kept.point ≡ Exchange l e y → MayHold key (target me.0.caller me.0.kept.point) e → old ≡ coded e → new ≡ coded y
+      → Allows (Ruled key) slots id me (index_of key (target me.0.caller me.0.kept.point)) (λ n. either (eqb n old) new n) (found (step slots (index_of key (target me.0.caller me.0.kept.point)) old new none) me)
+  exchange_allowed l e y old new is fits packed packed' = allows key slots id me alone (λ n. either (eqb n old) new n) (found (step slots (index_of key (target me.0.caller me.0.kept.point)) old new none) me) planned
       (λ x m. (λ i. either (eqb (coded x) (packed i)) (packed' i) (coded x)) ∙ swaps l e y x m fits is (eqb (coded x) (coded e)) refl) (λ x w g. (x, refl, g, refl))
 
 -- what was found, read back
-pub read_back : (s : Shape) (t : Point) (x : Content) (n : ℕ) (o : Option Content) → ReadsBack (CanCode (target t)) coded n o → n ≡ coded x → MayHold s (target t) x → o ≡ Some x
-read_back s t x n o back is m = (back x).1 (CanCode-in_lane s (target t) x m, sym is)
+pub read_back : (s : Shape) (c : ℕ) (t : Point) (x : Content) (n : ℕ) (o : Option Content) → ReadsBack (CanCode (target c t)) coded n o → n ≡ coded x → MayHold s (target c t) x → o ≡ Some x
+read_back s c t x n o back is m = (back x).1 (CanCode-in_lane s (target c t) x m, sym is)

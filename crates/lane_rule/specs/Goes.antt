@@ -1,5 +1,5 @@
 -- What a step tells its caller.
-use Rattle.std.specs.Prelude.{◌≡◌, ℕ, ◌<◌, [], length, Some}
+use Rattle.std.specs.Prelude.{◌≡◌, ℕ, suc, ◌<◌, [], length, Some}
 use Rattle.bq_model.specs.declared.shape.Shape.{Shape}
 use Rattle.word_rows.specs.declared.content.Content.{Content}
 use Rattle.word_rows.specs.Layout.{IsValid}
@@ -8,7 +8,9 @@ use Rattle.core_model.specs.declared.point.Point.{Point}
 use Rattle.core_model.specs.declared.point.Point.TheVariants as point
 use Rattle.core_model.specs.declared.point.AnswerPoint.TheVariants as answer
 use Rattle.core_model.specs.declared.point.ManyPoint.TheVariants as many
-use Rattle.core_model.specs.declared.point.Draft.{Draft}
+use Rattle.core_model.specs.declared.point.FillPoint.TheVariants as fill
+use Rattle.core_model.specs.declared.point.Notice.{Notice}
+use Rattle.core_model.specs.declared.point.Plan.{Plan}
 use Rattle.core_model.specs.LaneSizes.{lane_sizes}
 use Rattle.core_model.specs.State.{State}
 use Rattle.core_model.specs.Step.{act, target, after}
@@ -24,12 +26,12 @@ use Rattle.lane_rule.specs.declared.view.Kind.TheVariants.{Alone}
 use Rattle.core_model.specs.Fits.{ActFits}
 use Rattle.lane_rule.specs.Rule.{caller_of, Begins}
 
--- the next step at this point touches a word of the lane, and what it writes can stand there
-pub record Ready (s : Shape) (t : Point) : Type 0 where
-  pub word : IsValid s (target t)
+-- the next step of caller c at this point touches a word of the lane, and what it writes can stand there
+pub record Ready (s : Shape) (c : ℕ) (t : Point) : Type 0 where
+  pub word : IsValid s (target c t)
   pub rows : RowsFit t
   pub counts : CountsFit t
-  pub fits : ActFits s (act t)
+  pub fits : ActFits s (act c t)
 
 -- the lane as the view saw it
 abbrev pub seen_by : View → State
@@ -39,21 +41,23 @@ seen_by v = record { memory = (opening (lane_sizes v.shape)).memory; history = v
 pub record Knows (v : View) : Type 0 where
   pub proper : IsProper v.shape.callers v.seen
   pub own : v.kept.point ≡ point.Idle → mine v.seen v.caller ≡ v.kept.mine
-  -- its rows and announcements are counted by its groups
-  pub allowed : Allowed (lane_sizes v.shape) v.kept.mine v.kept.ops v.kept.taken v.kept.stopped v.kept.made
+  -- its rows are counted by its groups
+  pub allowed : Allowed (lane_sizes v.shape) v.kept.mine v.kept.ops v.kept.taken v.kept.stopped
   pub done : v.kept.point ≡ point.Idle → v.kept.outcome ≡ Some Done → EndedDone (seen_by v) v.caller
 
 -- the caller's next point, after its word contained x
 pub record Goes (v : View) (x : Content) (w : View) : Type 0 where
   pub alone : w.kind ≡ Alone
-  pub next : caller_of w.kept ≡ after (length w.seen) v.caller (caller_of v.kept) v.kept.point x
+  pub next : caller_of w.kept ≡ after (lane_sizes v.shape) (length w.seen) v.caller (caller_of v.kept) v.kept.point x
   pub same : w.caller ≡ v.caller
   pub shape : w.shape ≡ v.shape
   pub later : Begins v.seen w.seen
   pub heard : w.heard ≡ []
-  pub found : MayHold v.shape (target v.kept.point) x
-  pub ready : Ready w.shape w.kept.point
+  pub found : MayHold v.shape (target v.caller v.kept.point) x
+  pub ready : Ready w.shape w.caller w.kept.point
   pub knows : Knows w
   -- where it reads a value, there is a dequeue that gets it
   pub reads : (m r l : ℕ) → w.kept.point ≡ point.Answer (answer.LoadValue m r l) → length w.kept.values < length w.kept.ops
-  pub walks : (d : Draft) (r l : ℕ) → w.kept.point ≡ point.Many d (many.LoadValue r l) → length w.kept.values < length w.kept.ops
+  pub walks : (d : Plan) (r l : ℕ) → w.kept.point ≡ point.Many d (many.LoadValue r l) → length w.kept.values < length w.kept.ops
+  -- it loads the hazard word of a caller of the lane, and has found fewer announcements named than there are others
+  pub hears : (n : Notice) (e : ℕ) → w.kept.point ≡ point.Fill n (fill.LoadHazard e) → (e < w.shape.callers) × (suc (length w.kept.named) < w.shape.callers)

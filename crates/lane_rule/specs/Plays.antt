@@ -30,15 +30,16 @@ found st me n me' = (x : Content) × (n ≡ coded x) × Goes me.0 x me'.0 × (me
 abbrev pub wrote : Step ℕ → Me ℕ View → ℕ → Me ℕ View → Type 0
 wrote st me n me' = (x : Content) × Goes me.0 x me'.0 × (me'.1 ≡ me.1)
 
--- The seat is that of one caller of this lane, which makes the step at this point next.
-pub record IsAt (id : TableId) (key : Shape) (s : Shape) (t : Point) (p : Seat ℕ View) : Type 0 where
+-- The seat is that of this one caller of this lane, which makes the step at this point next.
+pub record IsAt (id : TableId) (key : Shape) (s : Shape) (c : ℕ) (t : Point) (p : Seat ℕ View) : Type 0 where
   pub table : p.table_id ≡ id
   pub size : id.words ≡ words_of key
   pub shape : s ≡ key
   pub planned : p.me.0.shape ≡ key
   pub alone : p.me.0.kind ≡ Alone
+  pub caller : p.me.0.caller ≡ c
   pub point : p.me.0.kept.point ≡ t
-  pub ready : Ready key t
+  pub ready : Ready key c t
 
 -- the seat made the machine's step, which found x
 abbrev pub Moves : Seat ℕ View → Content → Seat ℕ View → Type 0
@@ -51,16 +52,17 @@ began ops st me n me' = (m : ℕ) × (length me.0.seen ≤ m) × (x : Content) �
 abbrev pub began_store : List Op → Step ℕ → Me ℕ View → ℕ → Me ℕ View → Type 0
 began_store ops st me n me' = (m : ℕ) × (length me.0.seen ≤ m) × (x : Content) × Goes (begun me.0 m ops) x me'.0 × (me'.1 ≡ me.1)
 
--- The seat is that of one idle caller of this lane, whose command of these operations begins at this point.
-pub record IsIdle (id : TableId) (key : Shape) (s : Shape) (ops : List Op) (t : Point) (p : Seat ℕ View) : Type 0 where
+-- The seat is that of this one idle caller of this lane, whose command of these operations begins at this point.
+pub record IsIdle (id : TableId) (key : Shape) (s : Shape) (c : ℕ) (ops : List Op) (t : Point) (p : Seat ℕ View) : Type 0 where
   pub table : p.table_id ≡ id
   pub size : id.words ≡ words_of key
   pub shape : s ≡ key
   pub planned : p.me.0.shape ≡ key
   pub alone : p.me.0.kind ≡ Alone
+  pub caller : p.me.0.caller ≡ c
   pub may : MayStart p.me.0 ops
-  pub point : first_point (lane_sizes key) p.me.0.caller (caller_of p.me.0.kept) ops ≡ t
-  pub ready : Ready key t
+  pub point : first_point (lane_sizes key) c (caller_of p.me.0.kept) ops ≡ t
+  pub ready : Ready key c t
 
 -- the seat made the first step of the command of these operations, which found x
 abbrev pub Starts : Seat ℕ View → List Op → Content → Seat ℕ View → Type 0

@@ -20,10 +20,10 @@ use Rattle.lane_rule.specs.declared.view.Kind.TheVariants.{Maker, Alone, Gathere
 
 -- what a view keeps of a caller, as the machine keeps it, and the other way round
 abbrev pub caller_of : Kept → Caller
-caller_of k = record { point = k.point; ops = k.ops; mine = k.mine; taken = k.taken; stopped = k.stopped; made = k.made; values = k.values; outcome = k.outcome; answers = k.answers; started_at = k.started_at; ended_at = k.ended_at }
+caller_of k = record { point = k.point; ops = k.ops; mine = k.mine; taken = k.taken; stopped = k.stopped; values = k.values; named = k.named; hold = k.hold; outcome = k.outcome; answers = k.answers; started_at = k.started_at; ended_at = k.ended_at }
 
 abbrev pub kept_of : Caller → Kept
-kept_of k = record { point = k.point; ops = k.ops; mine = k.mine; taken = k.taken; stopped = k.stopped; made = k.made; values = k.values; outcome = k.outcome; answers = k.answers; started_at = k.started_at; ended_at = k.ended_at }
+kept_of k = record { point = k.point; ops = k.ops; mine = k.mine; taken = k.taken; stopped = k.stopped; values = k.values; named = k.named; hold = k.hold; outcome = k.outcome; answers = k.answers; started_at = k.started_at; ended_at = k.ended_at }
 
 abbrev pub Begins : List Group → List Group → Type 0
 Begins seen history = (rest : List Group) × (history ≡ seen ++ rest)

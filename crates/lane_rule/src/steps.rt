@@ -20,12 +20,13 @@ pub type Token = Seat<u64, View>;
 fn load(
     words: &Words,
     shape: &Shape,
+    caller: u32,
     token: &mut Token,
     point: Point,
     location: Location,
 ) -> Content
-    requires at { IsAt words.now.table_id words.now.key shape.now point token.old }
-    requires load { act point ≡ Act.Load location }
+    requires at { IsAt words.now.table_id words.now.key shape.now caller point token.old }
+    requires load { act caller point ≡ Act.Load location }
     ensures { Moves token.old result token.new }
 {
     let found = words.load::<Finds>(token, location.index(shape) as usize);
@@ -36,13 +37,14 @@ fn load(
 fn store(
     words: &Words,
     shape: &Shape,
+    caller: u32,
     token: &mut Token,
     point: Point,
     location: Location,
     new: Content,
 )
-    requires at { IsAt words.now.table_id words.now.key shape.now point token.old }
-    requires store { act point ≡ Act.Store location new }
+    requires at { IsAt words.now.table_id words.now.key shape.now caller point token.old }
+    requires store { act caller point ≡ Act.Store location new }
     ensures { (found : Content) × Moves token.old found token.new }
 {
     words.store::<Stores>(token, location.index(shape) as usize, new.pack());
@@ -52,14 +54,15 @@ fn store(
 fn exchange(
     words: &Words,
     shape: &Shape,
+    caller: u32,
     token: &mut Token,
     point: Point,
     location: Location,
     old: Content,
     new: Content,
 ) -> Content
-    requires at { IsAt words.now.table_id words.now.key shape.now point token.old }
-    requires exchange { act point ≡ Act.Exchange location old new }
+    requires at { IsAt words.now.table_id words.now.key shape.now caller point token.old }
+    requires exchange { act caller point ≡ Act.Exchange location old new }
     ensures { Moves token.old result token.new }
 {
     let found = words.compare_exchange::<Finds>(
@@ -71,19 +74,19 @@ fn exchange(
     Content::unpack(location, found).unwrap()
 }
 
-/// The next step of the token's caller, which is at this point. Gives what the step found; a store gives what it stored.
-pub fn step(words: &Words, shape: &Shape, token: &mut Token, point: Point) -> Content
-    requires { IsAt words.now.table_id words.now.key shape.now point token.old }
+/// The next step of this caller, whose token it is and which is at this point. Gives what the step found; a store gives what it stored.
+pub fn step(words: &Words, shape: &Shape, caller: u32, token: &mut Token, point: Point) -> Content
+    requires { IsAt words.now.table_id words.now.key shape.now caller point token.old }
     ensures { Moves token.old result token.new }
 {
-    match point.act() {
-        Act::Load(location) => load(words, shape, token, point, location),
+    match point.act(caller) {
+        Act::Load(location) => load(words, shape, caller, token, point, location),
         Act::Store(location, new) => {
-            store(words, shape, token, point, location, new);
+            store(words, shape, caller, token, point, location, new);
             new
         }
         Act::Exchange(location, old, new) => {
-            exchange(words, shape, token, point, location, old, new)
+            exchange(words, shape, caller, token, point, location, old, new)
         }
     }
 }
@@ -92,12 +95,13 @@ pub fn step(words: &Words, shape: &Shape, token: &mut Token, point: Point) -> Co
 fn first_load<C: Command>(
     words: &Words,
     shape: &Shape,
+    caller: u32,
     token: &mut Token,
     point: Point,
     location: Location,
 ) -> Content
-    requires idle { IsIdle words.now.table_id words.now.key shape.now C.ops point token.old }
-    requires load { act point ≡ Act.Load location }
+    requires idle { IsIdle words.now.table_id words.now.key shape.now caller C.ops point token.old }
+    requires load { act caller point ≡ Act.Load location }
     ensures { Starts token.old C.ops result token.new }
 {
     let found = words.load::<FirstFinds<C>>(token, location.index(shape) as usize);
@@ -108,33 +112,35 @@ fn first_load<C: Command>(
 fn first_store<C: Command>(
     words: &Words,
     shape: &Shape,
+    caller: u32,
     token: &mut Token,
     point: Point,
     location: Location,
     new: Content,
 )
-    requires idle { IsIdle words.now.table_id words.now.key shape.now C.ops point token.old }
-    requires store { act point ≡ Act.Store location new }
+    requires idle { IsIdle words.now.table_id words.now.key shape.now caller C.ops point token.old }
+    requires store { act caller point ≡ Act.Store location new }
     ensures { (found : Content) × Starts token.old C.ops found token.new }
 {
     words.store::<FirstStores<C>>(token, location.index(shape) as usize, new.pack());
 }
 
-/// The start of a command of the token's idle caller, which begins at this point, and its first step, both in one. Gives
+/// The start of a command of this idle caller, which begins at this point, and its first step, both in one. Gives
 /// what the step found or stored.
 pub fn first_step<C: Command>(
     words: &Words,
     shape: &Shape,
+    caller: u32,
     token: &mut Token,
     point: Point,
 ) -> Content
-    requires { IsIdle words.now.table_id words.now.key shape.now C.ops point token.old }
+    requires { IsIdle words.now.table_id words.now.key shape.now caller C.ops point token.old }
     ensures { Starts token.old C.ops result token.new }
 {
-    match point.act() {
-        Act::Load(location) => first_load::<C>(words, shape, token, point, location),
+    match point.act(caller) {
+        Act::Load(location) => first_load::<C>(words, shape, caller, token, point, location),
         Act::Store(location, new) => {
-            first_store::<C>(words, shape, token, point, location, new);
+            first_store::<C>(words, shape, caller, token, point, location, new);
             new
         }
         Act::Exchange(..) => unreachable!(),

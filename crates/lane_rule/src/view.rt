@@ -4,7 +4,7 @@ ghost use Rattle.bq_model.specs.declared.op.Op.{Op};
 
 use atomic_table::{Join, Play, Split, TableRule};
 use bq_model::{Answer, Group, Op, Shape};
-use core_model::{CallEnd, Point};
+use core_model::{CallEnd, Hold, Point};
 use std::collections::LinkedList;
 use std::marker::{Brand, PhantomData};
 
@@ -27,8 +27,9 @@ pub struct Kept {
     pub mine: LinkedList<Group>,
     pub taken: u64,
     pub stopped: u64,
-    pub made: u64,
     pub values: LinkedList<u64>,
+    pub named: LinkedList<u64>,
+    pub hold: Hold,
     pub outcome: Option<CallEnd>,
     pub answers: LinkedList<Answer>,
     pub started_at: u64,

@@ -1,8 +1,8 @@
-//! Tests of sessions over a lane that runs.
+//! Tests of sessions, and of callers beside each other, over the lanes that run.
 //!
 //! `calling` has two callers as docs/CALLING.md shows them. `bench` has a lane of one caller with its session, and `slow`
 //! a model of both that does each operation by itself; `worked` has the worked examples over them, and `sequences` the
-//! calls that are compared with the model. `beside` has callers in threads of their own.
+//! calls that are compared with the model. `beside` and `mixed` have callers in threads of their own.
 #![tactic(auto)]
 
 #[cfg(test)]
@@ -11,6 +11,8 @@ mod bench;
 mod beside;
 #[cfg(test)]
 mod calling;
+#[cfg(test)]
+mod mixed;
 #[cfg(test)]
 mod sequences;
 #[cfg(test)]

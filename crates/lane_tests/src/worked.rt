@@ -1,6 +1,7 @@
 // Worked examples.
 use crate::bench::{Bench, Call, Told};
-use bq_model::{Op, Shape};
+use bq_lane::BqLane;
+use bq_model::{Lane, Op, Shape};
 use std::alloc::Global;
 use std::process::Abort;
 use std::sync::Wait;
@@ -9,7 +10,7 @@ use turn_lane::TurnLane;
 
 // Makes the calls on a session with the last two sizes, over a lane with the first three: batch, room and allowance.
 // It compares the answers and what is pending and live afterwards.
-fn plays<R: Wait + Abort>(
+fn plays<L: Lane, R: Wait + Abort>(
     rt: &R,
     alloc: Global,
     sizes: (u32, u32, u64, u32, u32),
@@ -19,7 +20,7 @@ fn plays<R: Wait + Abort>(
     let (lane_batch, room, allowance, batch, tickets) = sizes;
     let shape = Shape::new(1, lane_batch, room, allowance, 0).ok_or("no shape")?;
     assert!(rt; 1 <= batch && batch <= shape.batch() && 1 <= tickets && tickets <= 256);
-    let mut bench = Bench::<TurnLane>::new(alloc, &shape, batch, tickets)?;
+    let mut bench = Bench::<L>::new(alloc, &shape, batch, tickets)?;
     for (call, wanted) in calls {
         assert_eq!(rt; bench.answer(rt, *call)?, *wanted, "{call:?}");
     }
@@ -28,15 +29,14 @@ fn plays<R: Wait + Abort>(
     Ok(())
 }
 
-#[test]
-fn spent_batches_stay_pending(rt: HostRuntime) -> Result<(), Fail> {
+fn spent_batches<L: Lane, R: Wait + Abort>(rt: &R, alloc: Global) -> Result<(), Fail> {
     let calls = [
         (Call::Enqueue(1), Told::Done),
         (Call::Enqueue(2), Told::Done),
         (Call::Enqueue(3), Told::Done),
         (Call::Enqueue(4), Told::Spent),
     ];
-    plays(&rt, rt.alloc(), (4, 8, 3, 4, 4), &calls, (0, 0))?;
+    plays::<L, R>(rt, alloc, (4, 8, 3, 4, 4), &calls, (0, 0))?;
     let calls = [
         (Call::Enqueue(1), Told::Done),
         (Call::Enqueue(2), Told::Done),
@@ -45,9 +45,16 @@ fn spent_batches_stay_pending(rt: HostRuntime) -> Result<(), Fail> {
         (Call::Evaluate(0), Told::Spent),
         (Call::Evaluate(1), Told::Spent),
     ];
-    plays(&rt, rt.alloc(), (4, 8, 3, 4, 4), &calls, (2, 2))
+    plays::<L, R>(rt, alloc, (4, 8, 3, 4, 4), &calls, (2, 2))
 }
 
+#[test]
+fn spent_batches_stay_pending(rt: HostRuntime) -> Result<(), Fail> {
+    spent_batches::<TurnLane, _>(&rt, rt.alloc())?;
+    spent_batches::<BqLane, _>(&rt, rt.alloc())
+}
+
+// Full by queued items is what it is on this lane alone.
 #[test]
 fn full_operation_is_withdrawn_and_made_later(rt: HostRuntime) -> Result<(), Fail> {
     let calls = [
@@ -59,32 +66,42 @@ fn full_operation_is_withdrawn_and_made_later(rt: HostRuntime) -> Result<(), Fai
         (Call::Dequeue, Told::Got(5, 1)),
         (Call::Enqueue(6), Told::Done),
     ];
-    plays(&rt, rt.alloc(), (1, 1, 100, 1, 2), &calls, (0, 0))
+    plays::<TurnLane, _>(&rt, rt.alloc(), (1, 1, 100, 1, 2), &calls, (0, 0))
 }
 
-#[test]
-fn batches_and_tickets_end_at_their_limits(rt: HostRuntime) -> Result<(), Fail> {
+fn limits<L: Lane, R: Wait + Abort>(rt: &R, alloc: Global) -> Result<(), Fail> {
     let calls = [
         (Call::FutureEnqueue(1), Told::Deferred),
         (Call::FutureEnqueue(2), Told::Deferred),
         (Call::FutureEnqueue(3), Told::BatchFull),
     ];
-    plays(&rt, rt.alloc(), (2, 8, 100, 2, 3), &calls, (2, 2))?;
+    plays::<L, R>(rt, alloc, (2, 8, 100, 2, 3), &calls, (2, 2))?;
     let calls = [
         (Call::FutureEnqueue(1), Told::Deferred),
         (Call::Dequeue, Told::Got(1, 1)),
         (Call::FutureEnqueue(2), Told::TicketsFull),
         (Call::Evaluate(0), Told::Done),
     ];
-    plays(&rt, rt.alloc(), (2, 8, 100, 2, 1), &calls, (0, 0))
+    plays::<L, R>(rt, alloc, (2, 8, 100, 2, 1), &calls, (0, 0))
 }
 
 #[test]
-fn sessions_end_where_nothing_is_pending(rt: HostRuntime) -> Result<(), Fail> {
+fn batches_and_tickets_end_at_their_limits(rt: HostRuntime) -> Result<(), Fail> {
+    limits::<TurnLane, _>(&rt, rt.alloc())?;
+    limits::<BqLane, _>(&rt, rt.alloc())
+}
+
+fn ends<L: Lane, R: Wait + Abort>(rt: &R, alloc: Global) -> Result<(), Fail> {
     let calls = [
         (Call::FutureEnqueue(1), Told::Deferred),
         (Call::WithdrawLast, Told::Took(Op::Enq(1))),
     ];
-    plays(&rt, rt.alloc(), (2, 8, 100, 2, 2), &calls[..1], (1, 1))?;
-    plays(&rt, rt.alloc(), (2, 8, 100, 2, 2), &calls, (0, 1))
+    plays::<L, R>(rt, alloc, (2, 8, 100, 2, 2), &calls[..1], (1, 1))?;
+    plays::<L, R>(rt, alloc, (2, 8, 100, 2, 2), &calls, (0, 1))
+}
+
+#[test]
+fn sessions_end_where_nothing_is_pending(rt: HostRuntime) -> Result<(), Fail> {
+    ends::<TurnLane, _>(&rt, rt.alloc())?;
+    ends::<BqLane, _>(&rt, rt.alloc())
 }

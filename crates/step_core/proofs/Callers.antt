@@ -46,30 +46,30 @@ due_kept ks c old new below is same = let e = due_set ks c new below in
     let was = ap due (caller_is ks c old below is) in let now = ap due (ap (λ (f : ℕ → Caller). f c) (callers_set ks c new below) ∙ put_here (callers_of ks) c (call_of new)) in omega arith
 
 -- a load, a store, what the history gains and what the caller keeps are a step
-pub step_is : (a d e : Lists) (w : Words) (c n : ℕ) (t : Point) (l : Location) (x : Content) → t ≡ (callers_of a.calls.items c).point → l ≡ target t → x ≡ read (memory_of a.words) l
-    → memory_of w ≡ write (memory_of a.words) l (stored t x) → d.words ≡ w → d.calls ≡ a.calls → d.history.items ≡ history_with (lane_sizes a.shape) (state_of a) c t x
+pub step_is : (a d e : Lists) (w : Words) (c n : ℕ) (t : Point) (l : Location) (x : Content) → t ≡ (callers_of a.calls.items c).point → l ≡ target c t → x ≡ read (memory_of a.words) l
+    → memory_of w ≡ write (memory_of a.words) l (stored c t x) → d.words ≡ w → d.calls ≡ a.calls → d.history.items ≡ history_with (lane_sizes a.shape) (state_of a) c t x
     → e.words ≡ d.words → e.history ≡ d.history → n ≡ length d.history.items
-    → callers_of e.calls.items ≡ put (callers_of d.calls.items) c (after n c (callers_of d.calls.items c) (callers_of d.calls.items c).point x)
+    → callers_of e.calls.items ≡ put (callers_of d.calls.items) c (after (lane_sizes a.shape) n c (callers_of d.calls.items c) (callers_of d.calls.items c).point x)
     → state_of e ≡ next (lane_sizes a.shape) (state_of a) c
 unfolding next
 step_is a d e w c n t l x at names found writes words calls grew words' history' now goes = whole ∙ ap (step_at (lane_sizes a.shape) (state_of a) c) at where
-  held : x ≡ read (memory_of a.words) (target t)
+  held : x ≡ read (memory_of a.words) (target c t)
   held = found ∙ ap (read (memory_of a.words)) names
 
-  memory : memory_of e.words ≡ write (memory_of a.words) (target t) (stored t (read (memory_of a.words) (target t)))
-  memory = ap memory_of (words' ∙ words) ∙ (writes ∙ (λ i. write (memory_of a.words) (names i) (stored t (held i))))
+  memory : memory_of e.words ≡ write (memory_of a.words) (target c t) (stored c t (read (memory_of a.words) (target c t)))
+  memory = ap memory_of (words' ∙ words) ∙ (writes ∙ (λ i. write (memory_of a.words) (names i) (stored c t (held i))))
 
   callers : callers_of d.calls.items ≡ callers_of a.calls.items
   callers = ap (λ (v : Vec Call Global). callers_of v.items) calls
 
-  history : e.history.items ≡ history_with (lane_sizes a.shape) (state_of a) c t (read (memory_of a.words) (target t))
+  history : e.history.items ≡ history_with (lane_sizes a.shape) (state_of a) c t (read (memory_of a.words) (target c t))
   history = ap (λ (v : Vec Group Global). v.items) history' ∙ (grew ∙ (λ i. history_with (lane_sizes a.shape) (state_of a) c t (held i)))
 
-  count : n ≡ length (history_with (lane_sizes a.shape) (state_of a) c t (read (memory_of a.words) (target t)))
+  count : n ≡ length (history_with (lane_sizes a.shape) (state_of a) c t (read (memory_of a.words) (target c t)))
   count = now ∙ ap length (grew ∙ (λ i. history_with (lane_sizes a.shape) (state_of a) c t (held i)))
 
-  goes' : callers_of e.calls.items ≡ put (callers_of a.calls.items) c (after (length (history_with (lane_sizes a.shape) (state_of a) c t (read (memory_of a.words) (target t)))) c (callers_of a.calls.items c) t (read (memory_of a.words) (target t)))
-  goes' = goes ∙ (λ i. put (callers i) c (after (count i) c (callers i c) ((ap (λ (f : ℕ → Caller). (f c).point) callers ∙ sym at) i) (held i)))
+  goes' : callers_of e.calls.items ≡ put (callers_of a.calls.items) c (after (lane_sizes a.shape) (length (history_with (lane_sizes a.shape) (state_of a) c t (read (memory_of a.words) (target c t)))) c (callers_of a.calls.items c) t (read (memory_of a.words) (target c t)))
+  goes' = goes ∙ (λ i. put (callers i) c (after (lane_sizes a.shape) (count i) c (callers i c) ((ap (λ (f : ℕ → Caller). (f c).point) callers ∙ sym at) i) (held i)))
 
   whole : state_of e ≡ step_at (lane_sizes a.shape) (state_of a) c t
   whole = λ i. record { memory = memory i; history = history i; callers = goes' i }

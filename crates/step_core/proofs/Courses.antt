@@ -3,23 +3,25 @@ use Rattle.std.proofs.Common.{◌≡◌, ℕ, suc, ◌<◌, ◌==◌, Bool, true
 use Rattle.word_rows.specs.declared.content.Content.{Content}
 use Rattle.word_rows.specs.declared.link_word.LinkWord.{LinkWord}
 use Rattle.word_rows.specs.declared.link_word.LinkWord.TheVariants.{Nil, Single, Chain, Shut}
-use Rattle.word_rows.specs.declared.location.AnnField.TheVariants as field
 use Rattle.word_rows.specs.declared.place.Place.{Place}
 use Rattle.core_model.specs.declared.course.Course.{Course}
-use Rattle.core_model.specs.declared.course.Course.TheVariants.{GoesOn, Fills, WalksMore}
+use Rattle.core_model.specs.declared.course.Course.TheVariants.{GoesOn, Fills, Scans, WalksMore}
 use Rattle.core_model.specs.declared.point.AnswerPoint.TheVariants as answer
 use Rattle.core_model.specs.declared.point.BatchPoint.TheVariants as batch
 use Rattle.core_model.specs.declared.point.DequeuePoint.TheVariants as dequeue
-use Rattle.core_model.specs.declared.point.Draft.{Draft}
+use Rattle.bq_model.specs.declared.shape.Shape.{Shape}
+use Rattle.core_model.specs.declared.point.Plan.{Plan}
+use Rattle.core_model.specs.declared.point.Notice.{Notice}
+use Rattle.core_model.specs.declared.point.FillPoint.TheVariants as fill
 use Rattle.core_model.specs.declared.point.EnqueuePoint.TheVariants as enqueue
 use Rattle.core_model.specs.declared.point.Help.{Help}
 use Rattle.core_model.specs.declared.point.HelpPoint.TheVariants as help
 use Rattle.core_model.specs.declared.point.ManyPoint.TheVariants as many
 use Rattle.core_model.specs.declared.point.Point.{Point}
 use Rattle.core_model.specs.declared.point.Point.TheVariants as point
-use Rattle.core_model.specs.Act.{is_node}
+use Rattle.core_model.specs.Act.{is_node, is_ann}
 use Rattle.core_model.specs.Answer as answering
-use Rattle.core_model.specs.Batch as filling
+use Rattle.core_model.specs.Fill as filling
 use Rattle.core_model.specs.Dequeue as dequeuing
 use Rattle.core_model.specs.Many as walking
 use Rattle.core_model.specs.State.{head_in, old_tail_in, link_in}
@@ -42,23 +44,34 @@ dequeue_not p (Single r) = refl
 dequeue_not p (Chain r) = refl
 dequeue_not p Shut = refl
 
-fill_not : (d : Draft) (i r : ℕ) → walks_more (filling.after_value d i r) ≡ false
-fill_not d i r = by (suc i == d.notice.counts.enqs) where
-  by : (b : Bool) → walks_more (cond b (GoesOn (point.Batch d (cond (d.notice.counts.enqs == 1) (batch.StoreField field.OldTail) (batch.StoreChain 0 d.notice.first (suc d.notice.first))))) (Fills d (suc i) (suc r))) ≡ false
-  by true = refl
-  by false = refl
+fill_not : (n : Notice) (i r : ℕ) → walks_more (filling.after_value n i r) ≡ false
+fill_not n i r = either_not (suc i == n.counts.enqs) (cond (n.counts.enqs == 1) (Scans n) (GoesOn (point.Fill n (fill.StoreChain 0 n.first (suc n.first))))) (Fills n (suc i) (suc r))
+    (either_not (n.counts.enqs == 1) (Scans n) (GoesOn (point.Fill n (fill.StoreChain 0 n.first (suc n.first)))) refl refl) refl
+
+chain_not : (n : Notice) (i q : ℕ) → walks_more (filling.after_chain n i q) ≡ false
+chain_not n i q = either_not (suc (suc i) == n.counts.enqs) (Scans n) (GoesOn (point.Fill n (fill.StoreChain (suc i) q (suc q)))) refl refl
+
+announces_not : (n : Notice) (a : Option ℕ) → walks_more (walking.announces n a) ≡ false
+announces_not n None = refl
+announces_not n (Some a) = refl
+
+link_not : (d : Plan) (l : ℕ) (x : LinkWord) → walks_more (walking.after_link d l x) ≡ false
+link_not d l Nil = announces_not d.notice d.ann
+link_not d l (Single r) = refl
+link_not d l (Chain r) = refl
+link_not d l Shut = refl
 
 answer_not : (h : Help) (o : Option Place) → walks_more (answering.after_old_tail h o) ≡ false
 answer_not h None = refl
 answer_not h (Some q) = refl
 
-dummy_not : (d : Draft) (l : LinkWord) → walks_more (walking.after_dummy d l) ≡ false
+dummy_not : (d : Plan) (l : LinkWord) → walks_more (walking.after_dummy d l) ≡ false
 dummy_not d Nil = refl
 dummy_not d (Single r) = refl
 dummy_not d (Chain r) = refl
 dummy_not d Shut = refl
 
-module _ (k : Call) (may : MayGo k) (x : Content) (u : Point) (v : ℕ) where
+module _ (k : Call) (s : Shape) (c : ℕ) (may : MayGo s c k) (x : Content) (u : Point) (v : ℕ) where
   abbrev Fits : Type 0
   Fits = length k.values.items < length k.ops
 
@@ -83,23 +96,27 @@ module _ (k : Call) (may : MayGo k) (x : Content) (u : Point) (v : ℕ) where
   value_fits (point.Dequeue (dequeue.PassTail p n)) at e = refuted (course (point.Dequeue (dequeue.PassTail p n)) x) refl e
   value_fits (point.Dequeue (dequeue.LoadValue p n)) at e = refuted (course (point.Dequeue (dequeue.LoadValue p n)) x) refl e
   value_fits (point.Dequeue (dequeue.MoveHead p n w)) at e = refuted (course (point.Dequeue (dequeue.MoveHead p n w)) x) (either_not (is_node (head_in x) p) _ _ refl refl) e
-  value_fits (point.Batch d (batch.StoreValue i r w)) at e = refuted (course (point.Batch d (batch.StoreValue i r w)) x) (fill_not d i r) e
-  value_fits (point.Batch d (batch.StoreChain i r n)) at e = refuted (course (point.Batch d (batch.StoreChain i r n)) x) refl e
+  value_fits (point.Fill n (fill.StoreValue i r w)) at e = refuted (course (point.Fill n (fill.StoreValue i r w)) x) (fill_not n i r) e
+  value_fits (point.Fill n (fill.StoreChain i r q)) at e = refuted (course (point.Fill n (fill.StoreChain i r q)) x) (chain_not n i q) e
+  value_fits (point.Fill n (fill.LoadHazard d)) at e = refuted (course (point.Fill n (fill.LoadHazard d)) x) refl e
   value_fits (point.Batch d (batch.StoreField f)) at e = refuted (course (point.Batch d (batch.StoreField f)) x) refl e
+  value_fits (point.Batch d (batch.StoreAll f)) at e = refuted (course (point.Batch d (batch.StoreAll f)) x) refl e
   value_fits (point.Batch d batch.LoadHead) at e = refuted (course (point.Batch d batch.LoadHead) x) refl e
   value_fits (point.Batch d batch.Install) at e = refuted (course (point.Batch d batch.Install) x) refl e
   value_fits (point.Many d many.LoadHead) at e = refuted (course (point.Many d many.LoadHead) x) refl e
   value_fits (point.Many d many.LoadDummy) at e = refuted (course (point.Many d many.LoadDummy) x) (dummy_not d (link_in x)) e
-  value_fits (point.Many d (many.LoadLink r l)) at e = refuted (course (point.Many d (many.LoadLink r l)) x) refl e
+  value_fits (point.Many d (many.LoadLink r l)) at e = refuted (course (point.Many d (many.LoadLink r l)) x) (link_not d l (link_in x)) e
   value_fits (point.Many d (many.LoadTail r)) at e = refuted (course (point.Many d (many.LoadTail r)) x) refl e
   value_fits (point.Many d (many.MoveHead r)) at e = refuted (course (point.Many d (many.MoveHead r)) x) (either_not (is_node (head_in x) d.notice.old_head) _ _ refl refl) e
   value_fits (point.Many d (many.LoadBehind p)) at e = refuted (course (point.Many d (many.LoadBehind p)) x) refl e
   value_fits (point.Many d (many.PassTail p n)) at e = refuted (course (point.Many d (many.PassTail p n)) x) refl e
   value_fits (point.Many d many.LoadChained) at e = refuted (course (point.Many d many.LoadChained) x) refl e
-  value_fits (point.Many d (many.StoreField f)) at e = refuted (course (point.Many d (many.StoreField f)) x) refl e
   value_fits (point.Answer (answer.LoadOldTail h)) at e = refuted (course (point.Answer (answer.LoadOldTail h)) x) (answer_not h (old_tail_in x)) e
   value_fits (point.Answer (answer.LoadLink m r l)) at e = refuted (course (point.Answer (answer.LoadLink m r l)) x) refl e
   value_fits (point.Answer (answer.LoadValue m r l)) at e = refuted (course (point.Answer (answer.LoadValue m r l)) x) refl e
+  value_fits (point.Clear a) at e = refuted (course (point.Clear a) x) refl e
+  value_fits (point.Help h help.StoreHazard) at e = refuted (course (point.Help h help.StoreHazard) x) refl e
+  value_fits (point.Help h help.LoadHead) at e = refuted (course (point.Help h help.LoadHead) x) (either_not (is_ann (head_in x) h.ann h.old_head.count) _ _ refl refl) e
   value_fits (point.Help h help.LoadOldHead) at e = refuted (course (point.Help h help.LoadOldHead) x) refl e
   value_fits (point.Help h help.LoadFirst) at e = refuted (course (point.Help h help.LoadFirst) x) refl e
   value_fits (point.Help h help.LoadLast) at e = refuted (course (point.Help h help.LoadLast) x) refl e

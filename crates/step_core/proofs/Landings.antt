@@ -98,15 +98,15 @@ module _ (z : LaneSizes) (s : State) (L : Lawful z s) (c : ℕ) (runs : (s.calle
   room_after = let now = groups_due z (next z s c) (preserves_next z s L c) in let le = total_le z.callers (λ d. due ((next z s c).callers d)) (λ d. due (s.callers d)) (λ d _. due_falls d) in omega arith
 
   module _ (t : Point) (at : t ≡ (s.callers c).point) where
-    grew : linearizes t (read s.memory (target t)) ≡ true → (next z s c).history ≡ s.history ++ own_group (group_owner z c t) (s.callers (group_owner z c t)) ∷ []
-    grew g = subst (λ (u : Point). (next z s c).history ≡ s.history ++ added_by z s.callers c u (read s.memory (target u))) (sym at) (history_added z s c)
+    grew : linearizes t (read s.memory (target c t)) ≡ true → (next z s c).history ≡ s.history ++ own_group (group_owner z c t) (s.callers (group_owner z c t)) ∷ []
+    grew g = subst (λ (u : Point). (next z s c).history ≡ s.history ++ added_by z s.callers c u (read s.memory (target c u))) (sym at) (history_added z s c)
         ∙ ap (λ (b : Bool). s.history ++ cond b (own_group (group_owner z c t) (s.callers (group_owner z c t)) ∷ []) []) g
 
-    pub leaves_history : linearizes t (read s.memory (target t)) ≡ false → (next z s c).history ≡ s.history
-    leaves_history g = subst (λ (u : Point). (next z s c).history ≡ s.history ++ added_by z s.callers c u (read s.memory (target u))) (sym at) (history_added z s c)
+    pub leaves_history : linearizes t (read s.memory (target c t)) ≡ false → (next z s c).history ≡ s.history
+    leaves_history g = subst (λ (u : Point). (next z s c).history ≡ s.history ++ added_by z s.callers c u (read s.memory (target c u))) (sym at) (history_added z s c)
         ∙ (ap (λ (b : Bool). s.history ++ cond b (own_group (group_owner z c t) (s.callers (group_owner z c t)) ∷ []) []) g ∙ append-nil s.history)
 
-    module _ (g : linearizes t (read s.memory (target t)) ≡ true) where
+    module _ (g : linearizes t (read s.memory (target c t)) ≡ true) where
       -- the history grows by one group
       pub one_more : length s.history < total z.callers (λ e. due (s.callers e))
       one_more = let room = room_after in let e = ap length (grew g) ∙ length-append s.history (own_group (group_owner z c t) (s.callers (group_owner z c t)) ∷ []) in omega arith

@@ -22,7 +22,7 @@ use Rattle.core_model.specs.Ranges.{IsWord, RowsFit, CountsFit}
 use Rattle.core_model.specs.Lawful.{Lawful}
 use Rattle.core_model.proofs.Puts.{put_all}
 use Rattle.core_model.proofs.Steps.{preserves_next}
-use Rattle.core_model.proofs.ReadValues.{values_fit, walked_fit}
+use Rattle.core_model.proofs.ReadValues.{named_fit, values_fit, walked_fit}
 use Rattle.core_model.proofs.InRange.{counts_fit, rows_fit, is_word, shape_fits}
 use Rattle.step_core.specs.declared.call.Call.{Call}
 use Rattle.step_core.specs.declared.lists.Lists.{Lists}
@@ -47,8 +47,8 @@ module _ (a : Lists) (S : IsSound a) where
   due_each = total_list due newcomer (map call_of a.calls.items) a.shape.callers (let n = S.calls in let m = length-map a.calls.items call_of in omega arith)
 
   module _ (c : ℕ) where
-    pub finds_word : (t : Point) → t ≡ (callers_of a.calls.items c).point → IsWord (rows_of a.shape) (anns_of a.shape) (target t)
-    finds_word t at = subst (λ (u : Point). IsWord (rows_of a.shape) (anns_of a.shape) (target u)) (sym at) (is_word (lane_sizes a.shape) (state_of a) S.lawful c)
+    pub finds_word : (t : Point) → t ≡ (callers_of a.calls.items c).point → IsWord (rows_of a.shape) a.shape.callers (anns_of a.shape) (target c t)
+    finds_word t at = subst (λ (u : Point). IsWord (rows_of a.shape) a.shape.callers (anns_of a.shape) (target c u)) (sym at) (is_word (lane_sizes a.shape) (state_of a) S.lawful c)
 
     pub fits_count : (t : Point) → t ≡ (callers_of a.calls.items c).point → CountsFit t
     fits_count t at = subst CountsFit (sym at) (counts_fit (lane_sizes a.shape) (state_of a) S.lawful (shape_fits a.shape) c)
@@ -59,7 +59,7 @@ module _ (a : Lists) (S : IsSound a) where
     module _ (runs : (callers_of a.calls.items c).point ≢ Idle) (t : Point) (at : t ≡ (callers_of a.calls.items c).point) where
       -- the lists as a later part of the step finds them
       pub may_linearize : (b : Lists) → b.shape ≡ a.shape → b.calls ≡ a.calls → b.copies ≡ a.copies → b.history ≡ a.history
-          → linearizes t (read (memory_of a.words) (target t)) ≡ true → MayLinearize b (group_owner (lane_sizes a.shape) c t)
+          → linearizes t (read (memory_of a.words) (target c t)) ≡ true → MayLinearize b (group_owner (lane_sizes a.shape) c t)
       may_linearize b shape calls copies history g = let z = lane_sizes a.shape in let s = state_of a in let d = group_owner z c t in let below = owner_known z s S.lawful c runs t at g in let waits = owner_waits z s S.lawful c runs t at g in record {
         inside = let n = S.calls in let e = ap (λ (v : Vec Call Global). vec_len v) calls in omega arith;
         with_copy = let n = S.copies in let e = ap (λ (v : Vec (List Op) Global). vec_len v) copies in omega arith;
@@ -67,13 +67,14 @@ module _ (a : Lists) (S : IsSound a) where
         copied = ap (λ (v : Vec (List Op) Global). copy_at v.items d) copies ∙ (S.copied d waits.0 waits.1 ∙ ap (λ (v : Vec Call Global). (callers_of v.items d).ops) (sym calls));
       }
 
-  pub may_go : (ks : List Call) (c : ℕ) → ks ≡ a.calls.items → c < length ks → (callers_of a.calls.items c).point ≢ Idle → IfSome (slice_get ks c) MayGo
-  may_go ks c same below runs = let f = call_at ks c below in subst (λ (o : Option Call). IfSome o MayGo) (sym f.1)
+  pub may_go : (ks : List Call) (c : ℕ) → ks ≡ a.calls.items → c < length ks → (callers_of a.calls.items c).point ≢ Idle → IfSome (slice_get ks c) (MayGo a.shape c)
+  may_go ks c same below runs = let f = call_at ks c below in subst (λ (o : Option Call). IfSome o (MayGo a.shape c)) (sym f.1)
       (let is = caller_is ks c f.0 below (sym (f.2 f.0)) in let was : callers_of a.calls.items c ≡ call_of f.0 = ap (λ (ys : List Call). callers_of ys c) (sym same) ∙ is in
-      let R : IsReady a.shape.batch f.0 = subst (IsReady a.shape.batch) (f.2 f.0) (subst (All (IsReady a.shape.batch)) (sym same) S.ready c f.0 below) in
+      let R : IsReady a.shape.batch a.shape.callers f.0 = subst (IsReady a.shape.batch a.shape.callers) (f.2 f.0) (subst (All (IsReady a.shape.batch a.shape.callers)) (sym same) S.ready c f.0 below) in
       let within = (S.lawful.callers c).allowed.within in let most = a.shape.some_allowance.1 in record {
+        known = let n = S.calls in let m = ap (λ (ys : List Call). length ys) same in omega arith;
         may_end = record {
-          ready = subst (λ (n : ℕ). IsReady n f.0) (sym R.answers) R;
+          ready = subst (λ (p : ℕ × ℕ). IsReady p.0 p.1 f.0) (λ i. (sym R.answers i, sym R.named i)) R;
           runs = λ idle. runs (ap (λ (k : Caller). k.point) was ∙ idle);
           fits = let e = ap (λ (k : Caller). length (operations k.mine) + length k.ops) was in omega arith;
         };
@@ -83,22 +84,23 @@ module _ (a : Lists) (S : IsSound a) where
             let less = values_fit (lane_sizes a.shape) (state_of a) S.lawful c m r l (ap (λ (k : Caller). k.point) was ∙ is) in omega arith;
         walks = λ d r l is. let e = ap (λ (k : Caller). length k.values) was in let o = ap (λ (k : Caller). length k.ops) was in
             let less = walked_fit (lane_sizes a.shape) (state_of a) S.lawful c d r l (ap (λ (k : Caller). k.point) was ∙ is) in omega arith;
+        scans = λ n d is. let e = ap (λ (k : Caller). length k.named) was in let m = R.named in let room = named_fit (lane_sizes a.shape) (state_of a) S.lawful c n d (ap (λ (k : Caller). k.point) was ∙ is) in let less = room.1 in (room.0, omega arith, omega arith);
       })
 
   module _ (c : ℕ) (runs : (callers_of a.calls.items c).point ≢ Idle) (e : Lists) (t : Point) (at : t ≡ (callers_of a.calls.items c).point)
       (step : state_of e ≡ next (lane_sizes a.shape) (state_of a) c) (shape : e.shape ≡ a.shape)
       (sizes : sizes_of e.words ≡ sizes_of a.words) (calls : vec_len e.calls ≡ vec_len a.calls) (copies : vec_len e.copies ≡ vec_len a.copies)
-      (ready : All (IsReady a.shape.batch) e.calls.items) (capacity : vec_capacity e.history ≡ vec_capacity a.history)
+      (ready : All (IsReady a.shape.batch a.shape.callers) e.calls.items) (capacity : vec_capacity e.history ≡ vec_capacity a.history)
       (others : (d : ℕ) → d ≢ group_owner (lane_sizes a.shape) c t → copy_at e.copies.items d ≡ copy_at a.copies.items d)
-      (still : linearizes t (read (memory_of a.words) (target t)) ≡ false → (d : ℕ) → copy_at e.copies.items d ≡ copy_at a.copies.items d) where
+      (still : linearizes t (read (memory_of a.words) (target c t)) ≡ false → (d : ℕ) → copy_at e.copies.items d ≡ copy_at a.copies.items d) where
     copied_next : (d : ℕ) → ((next (lane_sizes a.shape) (state_of a) c).callers d).point ≢ Idle
         → length (mine (next (lane_sizes a.shape) (state_of a) c).history d) ≡ length ((next (lane_sizes a.shape) (state_of a) c).callers d).mine
         → copy_at e.copies.items d ≡ ((next (lane_sizes a.shape) (state_of a) c).callers d).ops
-    copied_next d runs' none = by (linearizes t (read (memory_of a.words) (target t))) refl where
+    copied_next d runs' none = by (linearizes t (read (memory_of a.words) (target c t))) refl where
       z : LaneSizes
       z = lane_sizes a.shape
 
-      by : (b : Bool) → linearizes t (read (memory_of a.words) (target t)) ≡ b → copy_at e.copies.items d ≡ ((next (lane_sizes a.shape) (state_of a) c).callers d).ops
+      by : (b : Bool) → linearizes t (read (memory_of a.words) (target c t)) ≡ b → copy_at e.copies.items d ≡ ((next (lane_sizes a.shape) (state_of a) c).callers d).ops
       by true g = let on = goes_on_same (lane_sizes a.shape) (state_of a) S.lawful c runs d runs' in let apart = another (lane_sizes a.shape) (state_of a) S.lawful c runs t at g d runs' none in
           others d apart ∙ (S.copied d on.0 (ap length (sym (others_mine (lane_sizes a.shape) (state_of a) S.lawful c runs t at g d apart)) ∙ (none ∙ ap length on.2)) ∙ sym on.1)
       by false g = let on = goes_on_same (lane_sizes a.shape) (state_of a) S.lawful c runs d runs' in
@@ -107,10 +109,10 @@ module _ (a : Lists) (S : IsSound a) where
     pub stays_sound : IsSound e
     stays_sound = let L = subst (Lawful (lane_sizes a.shape)) (sym step) (preserves_next (lane_sizes a.shape) (state_of a) S.lawful c) in record {
       lawful = subst (λ (z : Shape). Lawful (lane_sizes z) (state_of e)) (sym shape) L;
-      sizes = sizes ∙ (S.sizes ∙ ap (λ (z : Shape). sizes_for (rows_of z) (anns_of z)) (sym shape));
+      sizes = sizes ∙ (S.sizes ∙ ap (λ (z : Shape). sizes_for (rows_of z) (anns_of z) z.callers) (sym shape));
       calls = calls ∙ (S.calls ∙ ap (λ (z : Shape). z.callers) (sym shape));
       copies = copies ∙ (S.copies ∙ ap (λ (z : Shape). z.callers) (sym shape));
-      ready = subst (λ (z : Shape). All (IsReady z.batch) e.calls.items) (sym shape) ready;
+      ready = subst (λ (z : Shape). All (IsReady z.batch z.callers) e.calls.items) (sym shape) ready;
       reserved = let falls = total_le a.shape.callers (λ d. due ((next (lane_sizes a.shape) (state_of a) c).callers d)) (λ d. due (callers_of a.calls.items d)) (λ d _. due_falls (lane_sizes a.shape) (state_of a) S.lawful c runs d) in
           let was = due_each in let now = total_list due newcomer (map call_of e.calls.items) a.shape.callers (let n = S.calls in let m = length-map e.calls.items call_of in let l = calls in omega arith) in
           let same = ap (λ (s : State). total a.shape.callers (λ d. due (s.callers d))) step in let room = S.reserved in let cap = capacity in omega arith;
@@ -119,24 +121,24 @@ module _ (a : Lists) (S : IsSound a) where
 
 -- what a caller has made is within its allowance
 pub made_within : (a : Lists) (S : IsSound a) (c : ℕ) (k : Call) → c < length a.calls.items → k ≡ slice_index_or a.calls.items c k → k.operations ≤ a.shape.allowance
-made_within a S c k below is = let within = (S.lawful.callers c).allowed.within in let made = (subst (IsReady a.shape.batch) (sym is) (S.ready c k below)).operations in
+made_within a S c k below is = let within = (S.lawful.callers c).allowed.within in let made = (subst (IsReady a.shape.batch a.shape.callers) (sym is) (S.ready c k below)).operations in
     let e = ap (λ (y : Caller). length (operations y.mine)) (caller_is a.calls.items c k below is) in omega arith
 
 pub spent_is : (a : Lists) (S : IsSound a) (c : ℕ) (k : Call) (allowance more : ℕ) → c < length a.calls.items → k ≡ slice_index_or a.calls.items c k → allowance ≡ a.shape.allowance
     → (ltb (allowance - k.operations) more ≡ true) ↔ PassesAllowance (lane_sizes a.shape) (callers_of a.calls.items c) more
-spent_is a S c k allowance more below is same = let made = (subst (IsReady a.shape.batch) (sym is) (S.ready c k below)).operations in let within = made_within a S c k below is in
+spent_is a S c k allowance more below is same = let made = (subst (IsReady a.shape.batch a.shape.callers) (sym is) (S.ready c k below)).operations in let within = made_within a S c k below is in
     let e = ap (λ (y : Caller). length (operations y.mine)) (caller_is a.calls.items c k below is) in
     ((λ t. let less = ltb-true _ _ t in omega arith), λ passes. lt-ltb _ _ (omega arith))
 
 -- lists that show the same lane
 pub again_sound : (a b : Lists) → IsSound a → state_of b ≡ state_of a → b.shape ≡ a.shape → sizes_of b.words ≡ sizes_of a.words → vec_len b.calls ≡ vec_len a.calls
-    → b.copies ≡ a.copies → All (IsReady a.shape.batch) b.calls.items → vec_capacity a.history ≤ vec_capacity b.history → all_due b.calls.items ≡ all_due a.calls.items → IsSound b
+    → b.copies ≡ a.copies → All (IsReady a.shape.batch a.shape.callers) b.calls.items → vec_capacity a.history ≤ vec_capacity b.history → all_due b.calls.items ≡ all_due a.calls.items → IsSound b
 again_sound a b S same shape sizes calls copies ready capacity waiting = record {
   lawful = subst (λ (z : Shape). Lawful (lane_sizes z) (state_of b)) (sym shape) (subst (Lawful (lane_sizes a.shape)) (sym same) S.lawful);
-  sizes = sizes ∙ (S.sizes ∙ ap (λ (z : Shape). sizes_for (rows_of z) (anns_of z)) (sym shape));
+  sizes = sizes ∙ (S.sizes ∙ ap (λ (z : Shape). sizes_for (rows_of z) (anns_of z) z.callers) (sym shape));
   calls = calls ∙ (S.calls ∙ ap (λ (z : Shape). z.callers) (sym shape));
   copies = ap (λ (v : Vec (List Op) Global). vec_len v) copies ∙ (S.copies ∙ ap (λ (z : Shape). z.callers) (sym shape));
-  ready = subst (λ (z : Shape). All (IsReady z.batch) b.calls.items) (sym shape) ready;
+  ready = subst (λ (z : Shape). All (IsReady z.batch z.callers) b.calls.items) (sym shape) ready;
   reserved = let r = S.reserved in let c = capacity in let w = waiting in omega arith;
   copied = subst (λ (v : List (List Op)). (d : ℕ) → (callers_of b.calls.items d).point ≢ Idle → length (mine b.history.items d) ≡ length (callers_of b.calls.items d).mine → copy_at v d ≡ (callers_of b.calls.items d).ops) (ap (λ (v : Vec (List Op) Global). v.items) (sym copies))
       (subst (λ (s : State). (d : ℕ) → (s.callers d).point ≢ Idle → length (mine s.history d) ≡ length (s.callers d).mine → copy_at a.copies.items d ≡ (s.callers d).ops) (sym same) S.copied);
@@ -149,16 +151,16 @@ on_ok (Err e) f p = tt
 -- Lists in which one caller alone goes on, which takes no step.
 module _ (a b : Lists) (S : IsSound a) (c : ℕ) (k' : Caller) (goes : callers_of b.calls.items ≡ put (callers_of a.calls.items) c k') where
   pub put_sound : Lawful (lane_sizes a.shape) record { memory = (state_of a).memory; history = (state_of a).history; callers = put (callers_of a.calls.items) c k' }
-      → b.shape ≡ a.shape → b.words ≡ a.words → b.history ≡ a.history → vec_len b.calls ≡ vec_len a.calls → vec_len b.copies ≡ vec_len a.copies → All (IsReady a.shape.batch) b.calls.items
+      → b.shape ≡ a.shape → b.words ≡ a.words → b.history ≡ a.history → vec_len b.calls ≡ vec_len a.calls → vec_len b.copies ≡ vec_len a.copies → All (IsReady a.shape.batch a.shape.callers) b.calls.items
       → all_due b.calls.items ≤ vec_capacity a.history
       → (k'.point ≢ Idle → copy_at b.copies.items c ≡ k'.ops) → ((d : ℕ) → d ≢ c → copy_at b.copies.items d ≡ copy_at a.copies.items d) → IsSound b
   put_sound L shape words history calls copies ready reserved own others = record {
     lawful = subst (λ (z : Shape). Lawful (lane_sizes z) (state_of b)) (sym shape)
         (subst (Lawful (lane_sizes a.shape)) (λ i. record { memory = memory_of (sym words i); history = (sym history i).items; callers = sym goes i }) L);
-    sizes = ap (λ (w : Words). sizes_of w) words ∙ (S.sizes ∙ ap (λ (z : Shape). sizes_for (rows_of z) (anns_of z)) (sym shape));
+    sizes = ap (λ (w : Words). sizes_of w) words ∙ (S.sizes ∙ ap (λ (z : Shape). sizes_for (rows_of z) (anns_of z) z.callers) (sym shape));
     calls = calls ∙ (S.calls ∙ ap (λ (z : Shape). z.callers) (sym shape));
     copies = copies ∙ (S.copies ∙ ap (λ (z : Shape). z.callers) (sym shape));
-    ready = subst (λ (z : Shape). All (IsReady z.batch) b.calls.items) (sym shape) ready;
+    ready = subst (λ (z : Shape). All (IsReady z.batch z.callers) b.calls.items) (sym shape) ready;
     reserved = let m = ap (λ (v : Vec Group Global). vec_capacity v) history in let r = reserved in omega arith;
     copied = subst (λ (v : Vec Group Global). (d : ℕ) → (callers_of b.calls.items d).point ≢ Idle → length (mine v.items d) ≡ length (callers_of b.calls.items d).mine → copy_at b.copies.items d ≡ (callers_of b.calls.items d).ops) (sym history)
         (subst (λ (f : ℕ → Caller). (d : ℕ) → (f d).point ≢ Idle → length (mine a.history.items d) ≡ length (f d).mine → copy_at b.copies.items d ≡ (f d).ops) (sym goes)

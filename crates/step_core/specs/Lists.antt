@@ -39,10 +39,10 @@ pub record MayLinearize (m : Lists) (c : ℕ) : Type 0 where
 -- The lists show a lawful lane, and all memory that its steps need is there.
 pub record IsSound (m : Lists) : Type 0 where
   pub lawful : Lawful (lane_sizes m.shape) (state_of m)
-  pub sizes : sizes_of m.words ≡ sizes_for (rows_of m.shape) (anns_of m.shape)
+  pub sizes : sizes_of m.words ≡ sizes_for (rows_of m.shape) (anns_of m.shape) m.shape.callers
   pub calls : vec_len m.calls ≡ m.shape.callers
   pub copies : vec_len m.copies ≡ m.shape.callers
-  pub ready : All (IsReady m.shape.batch) m.calls.items
+  pub ready : All (IsReady m.shape.batch m.shape.callers) m.calls.items
   -- there is room for the group of each running command, whoever adds it to the history
   pub reserved : all_due m.calls.items ≤ vec_capacity m.history
   -- and where it isn't there yet, a copy of its operations

@@ -23,6 +23,8 @@ pub record View : Type 0 where
   -- of each announcement OldTail, and what it says else
   pub old_tails : List (Option Place)
   pub notices : List Notice
+  -- of each caller the announcement that its ANN_HAZARD names
+  pub ann_hazards : List (Option ℕ)
   pub history : List Group
   pub callers : List Caller
 
@@ -39,6 +41,7 @@ state_at v = record {
     value = λ r. slice_index_or v.values r 0;
     old_tail = λ a. slice_index_or v.old_tails a None;
     notice = λ a. slice_index_or v.notices a blank;
+    ann_hazard = λ c. slice_index_or v.ann_hazards c None;
   };
   history = v.history;
   callers = caller_at v;
@@ -53,6 +56,7 @@ view_of m = record {
   values = m.words.values.items;
   old_tails = m.words.old_tails.items;
   notices = m.words.notices.items;
+  ann_hazards = m.words.ann_hazards.items;
   history = m.history.items;
   callers = map call_of m.calls.items;
 }

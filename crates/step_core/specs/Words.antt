@@ -14,11 +14,12 @@ memory_of w = record {
   value = λ r. slice_index_or w.values.items r 0;
   old_tail = λ a. slice_index_or w.old_tails.items a None;
   notice = λ a. slice_index_or w.notices.items a blank;
+  ann_hazard = λ c. slice_index_or w.ann_hazards.items c None;
 }
 
 -- the words of an empty lane
 abbrev pub opening_words : ℕ → Memory
-opening_words first = record { head = Node (place 0 first); tail = place 0 first; link = λ _. Nil; value = λ _. 0; old_tail = λ _. None; notice = λ _. blank }
+opening_words first = record { head = Node (place 0 first); tail = place 0 first; link = λ _. Nil; value = λ _. 0; old_tail = λ _. None; notice = λ _. blank; ann_hazard = λ _. None }
 
 -- how many words of each kind there are
 pub record Sizes : Type 0 where
@@ -26,10 +27,11 @@ pub record Sizes : Type 0 where
   pub values : ℕ
   pub old_tails : ℕ
   pub notices : ℕ
+  pub ann_hazards : ℕ
 
 abbrev pub sizes_of : Words → Sizes
-sizes_of w = record { links = vec_len w.links; values = vec_len w.values; old_tails = vec_len w.old_tails; notices = vec_len w.notices }
+sizes_of w = record { links = vec_len w.links; values = vec_len w.values; old_tails = vec_len w.old_tails; notices = vec_len w.notices; ann_hazards = vec_len w.ann_hazards }
 
--- those of a lane with so many rows and announcements
-abbrev pub sizes_for : ℕ → ℕ → Sizes
-sizes_for rows anns = record { links = rows; values = rows; old_tails = anns; notices = anns }
+-- those of a lane with so many rows, announcements and callers
+abbrev pub sizes_for : ℕ → ℕ → ℕ → Sizes
+sizes_for rows anns callers = record { links = rows; values = rows; old_tails = anns; notices = anns; ann_hazards = callers }

@@ -24,11 +24,11 @@ use word_rows::{Content, anns, rows};
 fn newcomers(alloc: Global, callers: u32, batch: u32) -> Result<Vec<Call>, OutOfMemory>
     ensures len { IfOk result (λ calls. vec_len calls ≡ callers) }
     ensures newcomers { IfOk result (λ calls. All (λ call. call_of call ≡ newcomer) calls.items) }
-    ensures ready { IfOk result (λ calls. All (IsReady batch) calls.items) }
+    ensures ready { IfOk result (λ calls. All (IsReady batch callers) calls.items) }
 {
     let mut calls = Vec::new(alloc);
     for _made in 0..callers {
-        calls.push(Call::new(alloc, batch)?)?;
+        calls.push(Call::new(alloc, batch, callers)?)?;
     }
     Ok(calls)
 }
@@ -79,6 +79,7 @@ impl Lists {
             alloc,
             rows(&shape) as usize,
             anns(&shape) as usize,
+            shape.callers() as usize,
             shape.first_count(),
         )?;
         let calls = newcomers(alloc, shape.callers(), shape.batch())?;
@@ -150,19 +151,19 @@ impl Lists {
     // The caller goes on.
     fn go(&mut self, caller: u32, found: Content)
         requires inside { caller < vec_len self.old.calls }
-        requires may_go { IfSome (slice_get self.old.calls.items caller) MayGo }
-        requires ready { All (IsReady self.old.shape.batch) self.old.calls.items }
+        requires may_go { IfSome (slice_get self.old.calls.items caller) (MayGo self.old.shape caller) }
+        requires ready { All (IsReady self.old.shape.batch self.old.shape.callers) self.old.calls.items }
         ensures callers { callers_of self.new.calls.items ≡ put (callers_of self.old.calls.items) caller
-            (after (vec_len self.old.history) caller (callers_of self.old.calls.items caller) (callers_of self.old.calls.items caller).point found) }
+            (after (lane_sizes self.old.shape) (vec_len self.old.history) caller (callers_of self.old.calls.items caller) (callers_of self.old.calls.items caller).point found) }
         ensures due { all_due self.new.calls.items + due (callers_of self.old.calls.items caller)
             ≡ all_due self.old.calls.items + due (callers_of self.new.calls.items caller) }
-        ensures ready { All (IsReady self.old.shape.batch) self.new.calls.items }
+        ensures ready { All (IsReady self.old.shape.batch self.old.shape.callers) self.new.calls.items }
         ensures len { vec_len self.new.calls ≡ vec_len self.old.calls }
         ensures rest { (self.new.shape ≡ self.old.shape) × (self.new.words ≡ self.old.words) × (self.new.history ≡ self.old.history) × (self.new.copies ≡ self.old.copies) }
     {
         let now = self.history.len();
         let call = &mut self.calls[caller as usize];
-        call.go(caller, found, now);
+        call.go(&self.shape, caller, found, now);
     }
 
     /// The next step of the caller, and its kind.
@@ -176,7 +177,7 @@ impl Lists {
         ensures shape { self.new.shape ≡ self.old.shape }
     {
         let point = self.point(caller);
-        let act = point.act();
+        let act = point.act(caller);
         let word = act.location();
         let found = self.words.read(word);
         self.words.write(word, act.effect(found));

@@ -63,7 +63,7 @@ impl Machine {
         self.lists.shape.batch()
     }
 
-    /// Starts a command of an idle caller: one operation is a plain call, and more are a batch. It takes all memory that the command's steps need. A command for which no row or no announcement is left ends with Full at once.
+    /// Starts a command of an idle caller: one operation is a plain call, and more are a batch. It takes all memory that the command's steps need. A command for which no row is left ends with Full at once.
     pub fn start(&mut self, caller: u32, ops: &[Op]) -> Result<Started, OutOfMemory>
         requires known { caller < self.old.shape.callers }
         requires idle { (caller_at self.old caller).point ≡ Idle }

@@ -9,16 +9,16 @@ ghost use Rattle.core_model.specs.declared.point.Point.TheVariants.{Idle};
 ghost use Rattle.core_model.specs.Batches.{notice_of};
 ghost use Rattle.core_model.specs.Functions.{put};
 ghost use Rattle.core_model.specs.LaneSizes.{lane_sizes};
-ghost use Rattle.core_model.specs.Start.{PassesAllowance, IsCommand, anns_taken, has_rows, draft_of, first_point, started, refused, start};
+ghost use Rattle.core_model.specs.Start.{PassesAllowance, IsCommand, has_rows, first_point, started, refused, start};
 ghost use Rattle.core_model.specs.State.{Caller};
 ghost use Rattle.step_core.specs.Lists.{callers_of, state_of, IsSound};
 
 use crate::lists::Lists;
 use bq_model::{Op, Ops, OutOfMemory, Shape};
-use core_model::{Stock, anns_taken, stoppers_taken};
+use core_model::{Stock, stoppers_taken};
 use excess_count::{Counts, count};
 use std::alloc::Global;
-use word_rows::items;
+use word_rows::{items, stoppers};
 
 /// What became of the start of a command.
 #[derive(Clone, Copy, Debug, PartialEq, Eq, Hash)]
@@ -73,19 +73,17 @@ impl Lists {
         requires { caller < vec_len self.now.calls }
         ensures taken { result.taken ≡ (callers_of self.now.calls.items caller).taken }
         ensures stopped { result.stopped ≡ (callers_of self.now.calls.items caller).stopped }
-        ensures made { result.made ≡ (callers_of self.now.calls.items caller).made }
         ensures batch { result.batch ≡ length (callers_of self.now.calls.items caller).mine }
     {
         let call = &self.calls[caller as usize];
         Stock {
             taken: call.taken,
             stopped: call.stopped,
-            made: call.made,
             batch: call.mine.len() as u64,
         }
     }
 
-    // Whether rows and an announcement are left for so many enqueues and operations.
+    // Whether rows are left for so many enqueues and operations.
     fn has_rows(&self, caller: u32, enqs: u32, operations: usize) -> bool
         requires sound { IsSound self.now }
         requires known { caller < self.now.shape.callers }
@@ -95,8 +93,8 @@ impl Lists {
     {
         let stock = self.stock(caller);
         let rows = stock.taken + enqs <= items(&self.shape);
-        let anns = stock.made + anns_taken(operations) <= self.shape.callers();
-        rows && anns
+        let taken = stock.stopped + stoppers_taken(operations, enqs);
+        rows && taken <= stoppers(&self.shape)
     }
 
     // Takes the memory that a command of the caller needs: for its group in the history, for the values that it reads, and
@@ -160,7 +158,6 @@ impl Lists {
         let stock = Stock {
             taken: stock.taken + counts.enqs,
             stopped: stock.stopped + stoppers_taken(operations, counts.enqs),
-            made: stock.made + anns_taken(operations),
             batch: stock.batch,
         };
         self.copies[caller as usize] = copy;

@@ -1,4 +1,5 @@
-// The words of a lane that steps touch: HEAD, TAIL, the LINK and the VALUE of each row, and the words of each announcement.
+// The words of a lane that steps touch: HEAD, TAIL, the LINK and the VALUE of each row, the ANN_HAZARD of each caller, and the
+// words of each announcement.
 ghost use Rattle.std.specs.Prelude.{◌≡◌, ◌<◌, IfOk, vec_len};
 ghost use Rattle.word_rows.specs.Opening.{opening_marks};
 ghost use Rattle.core_model.specs.Ranges.{IsWord};
@@ -6,7 +7,7 @@ ghost use Rattle.core_model.specs.State.{read, read_field, write, write_field};
 ghost use Rattle.step_core.specs.Words.{memory_of, opening_words, sizes_of, sizes_for};
 
 use bq_model::OutOfMemory;
-use core_model::{Notice, head_in, link_in, old_tail_in, tail_in, value_in};
+use core_model::{Notice, hazard_in, head_in, link_in, old_tail_in, tail_in, value_in};
 use std::alloc::Global;
 use word_rows::{AnnField, Content, HeadWord, LinkWord, Location, Marks, Place};
 
@@ -21,6 +22,8 @@ pub struct Words {
     pub old_tails: Vec<Option<Place>>,
     /// Of each announcement what its other words say.
     pub notices: Vec<Notice>,
+    /// Of each caller the announcement that its ANN_HAZARD names.
+    pub ann_hazards: Vec<Option<u32>>,
 }
 
 // The marks of a row, which no step touches yet.
@@ -36,10 +39,16 @@ fn opening_marks(row: u32) -> Marks
 }
 
 impl Words {
-    /// The words of an empty lane with so many rows and announcements, whose counts begin at `first`.
-    pub fn new(alloc: Global, rows: usize, anns: usize, first: u64) -> Result<Words, OutOfMemory>
+    /// The words of an empty lane with so many rows, announcements and callers, whose counts begin at `first`.
+    pub fn new(
+        alloc: Global,
+        rows: usize,
+        anns: usize,
+        callers: usize,
+        first: u64,
+    ) -> Result<Words, OutOfMemory>
         ensures opening { IfOk result (λ words. memory_of words ≡ opening_words first) }
-        ensures sizes { IfOk result (λ words. sizes_of words ≡ sizes_for rows anns) }
+        ensures sizes { IfOk result (λ words. sizes_of words ≡ sizes_for rows anns callers) }
     {
         let dummy = Place {
             row: 0,
@@ -52,6 +61,7 @@ impl Words {
             values: vec![in alloc; 0; rows]?,
             old_tails: vec![in alloc; None; anns]?,
             notices: vec![in alloc; Notice::blank(); anns]?,
+            ann_hazards: vec![in alloc; None; callers]?,
         })
     }
 
@@ -69,8 +79,8 @@ impl Words {
 
     /// What the word holds.
     pub fn read(&self, word: Location) -> Content
-        requires links { IsWord (vec_len self.now.links) (vec_len self.now.old_tails) word }
-        requires values { IsWord (vec_len self.now.values) (vec_len self.now.notices) word }
+        requires links { IsWord (vec_len self.now.links) (vec_len self.now.ann_hazards) (vec_len self.now.old_tails) word }
+        requires values { IsWord (vec_len self.now.values) (vec_len self.now.ann_hazards) (vec_len self.now.notices) word }
         ensures { result ≡ read (memory_of self.now) word }
     {
         match word {
@@ -81,7 +91,9 @@ impl Words {
             Location::AnnWord { ann, field } => self.read_field(ann, field),
             Location::Mark { row } => Content::OfMark(opening_marks(row)),
             Location::NodeHazard { .. } => Content::OfNodeHazard(None),
-            Location::AnnHazard { .. } => Content::OfAnnHazard(None),
+            Location::AnnHazard { caller } => {
+                Content::OfAnnHazard(self.ann_hazards[caller as usize])
+            }
         }
     }
 
@@ -103,8 +115,8 @@ impl Words {
 
     /// Stores into the word.
     pub fn write(&mut self, word: Location, content: Content)
-        requires links { IsWord (vec_len self.old.links) (vec_len self.old.old_tails) word }
-        requires values { IsWord (vec_len self.old.values) (vec_len self.old.notices) word }
+        requires links { IsWord (vec_len self.old.links) (vec_len self.old.ann_hazards) (vec_len self.old.old_tails) word }
+        requires values { IsWord (vec_len self.old.values) (vec_len self.old.ann_hazards) (vec_len self.old.notices) word }
         ensures memory { memory_of self.new ≡ write (memory_of self.old) word content }
         ensures sizes_stay { sizes_of self.new ≡ sizes_of self.old }
     {
@@ -114,6 +126,9 @@ impl Words {
             Location::Link { row } => self.links[row as usize] = link_in(content),
             Location::Value { row } => self.values[row as usize] = value_in(content),
             Location::AnnWord { ann, field } => self.write_field(ann, field, content),
+            Location::AnnHazard { caller } => self.ann_hazards[caller as usize] = hazard_in(
+                content,
+            ),
             _ => {}
         }
     }

@@ -108,21 +108,6 @@ fn batches_by_hand_answer_and_leave_what_they_must(rt: HostRuntime) -> Result<()
             answers: &[Answer::Done, Answer::Got(1)],
             queue: &[2, 3, 4, 5, 6],
         },
-        // A caller has as many announcements as there are callers. A second batch of a lone caller ends with Full.
-        Batches {
-            callers: 1,
-            batch: 5,
-            acts: &[
-                Act::Start(0, &[Op::Enq(1), Op::Enq(2)]),
-                Act::Finish(0),
-                Act::Start(0, &[Op::Enq(6), Op::Deq]),
-                Act::Finish(0),
-            ],
-            groups: &[(0, 0, &[Op::Enq(1), Op::Enq(2)])],
-            caller: 0,
-            answers: &[],
-            queue: &[1, 2],
-        },
         // No dequeue: the head gets its old word back.
         Batches {
             callers: 1,
@@ -184,7 +169,7 @@ fn batches_by_hand_answer_and_leave_what_they_must(rt: HostRuntime) -> Result<()
             acts: &[
                 Act::Start(0, &[Op::Enq(5), Op::Enq(6), Op::Deq]),
                 Act::Until(0, StepKind::Install),
-                Act::Until(0, StepKind::LoadAnn),
+                Act::Until(0, StepKind::StoreAnnHazard),
                 Act::Start(1, &[Op::Enq(2), Op::Deq]),
                 Act::Finish(1),
                 Act::Finish(0),

@@ -8,6 +8,7 @@ fn laws_of_the_lane_are_there() {
     core_model::a_step_stores_into_one_word();
     core_model::a_lane_opens_as_its_table();
     core_model::ended_commands_stand_in_the_history();
+    core_model::held_announcements_are_left();
     core_model::full_comes_exactly_without_a_row();
     core_model::counts_stay_in_range();
     core_model::words_can_be_coded();

@@ -2,8 +2,8 @@
 //!
 //! `plays` has the events of a table, and `schedules` runs tables of them. `plain` goes step by step through single
 //! operations, and `short` through all short schedules of two callers. `acts` has what a table tells callers to do,
-//! `batches` and `many` what batches leave, `steps` the order of their steps, and `helpers` callers that stop within a help. `laws`
-//! calls each law.
+//! `batches` and `many` what batches leave, `steps` and `walks` the order of their steps, `helpers` callers that stop within a
+//! help, and `holds` announcements that are used again. `laws` calls each law.
 #![tactic(auto)]
 
 #[cfg(test)]
@@ -12,6 +12,8 @@ mod acts;
 mod batches;
 #[cfg(test)]
 mod helpers;
+#[cfg(test)]
+mod holds;
 #[cfg(test)]
 mod laws;
 #[cfg(test)]

@@ -150,19 +150,53 @@ fn dequeues_alone_are_announced_where_they_find_too_few(rt: HostRuntime) -> Resu
             answers: &[Answer::Got(1), Answer::Got(2), Answer::Empty],
             queue: &[9],
         },
-        // A lone caller has one announcement. Its second batch ends with Full.
+        // A lone caller announces both batches by its one announcement.
         Batches {
             callers: 1,
             batch: 4,
             acts: &[
+                Act::Start(0, &[Op::Enq(1)]),
+                Act::Finish(0),
                 Act::Start(0, THREE),
+                Act::Finish(0),
+                Act::Start(0, &[Op::Enq(2)]),
                 Act::Finish(0),
                 Act::Start(0, TWO),
                 Act::Finish(0),
             ],
-            groups: &[(0, 0, THREE)],
+            groups: &[
+                (0, 0, &[Op::Enq(1)]),
+                (0, 1, THREE),
+                (0, 2, &[Op::Enq(2)]),
+                (0, 3, TWO),
+            ],
             caller: 0,
-            answers: &[],
+            answers: &[Answer::Got(2), Answer::Empty],
+            queue: &[],
+        },
+        // The first value is taken before the install, and another one comes. The second install is of the same announcement.
+        Batches {
+            callers: 2,
+            batch: 4,
+            acts: &[
+                Act::Start(0, &[Op::Enq(1)]),
+                Act::Finish(0),
+                Act::Start(0, TWO),
+                Act::Until(0, StepKind::Install),
+                Act::Start(1, &[Op::Deq]),
+                Act::Finish(1),
+                Act::Start(1, &[Op::Enq(2)]),
+                Act::Finish(1),
+                Act::Finish(0),
+            ],
+            groups: &[
+                (0, 0, &[Op::Enq(1)]),
+                (1, 0, &[Op::Deq]),
+                (1, 1, &[Op::Enq(2)]),
+                (0, 1, TWO),
+            ],
+            caller: 0,
+            answers: &[Answer::Got(2), Answer::Empty],
             queue: &[],
         },
     ];
@@ -170,6 +204,43 @@ fn dequeues_alone_are_announced_where_they_find_too_few(rt: HostRuntime) -> Resu
         assert_batches(&rt, rt.alloc(), row)?;
     }
     Ok(())
+}
+
+#[test]
+fn seventh_batch_of_dequeues_alone_finds_no_stopper(rt: HostRuntime) -> Result<(), Fail> {
+    // With batches of two a single caller has 2 + 1 * (2 + 1 + 1) stoppers, which is 6.
+    let row = Batches {
+        callers: 1,
+        batch: 2,
+        acts: &[
+            Act::Start(0, TWO),
+            Act::Finish(0),
+            Act::Start(0, TWO),
+            Act::Finish(0),
+            Act::Start(0, TWO),
+            Act::Finish(0),
+            Act::Start(0, TWO),
+            Act::Finish(0),
+            Act::Start(0, TWO),
+            Act::Finish(0),
+            Act::Start(0, TWO),
+            Act::Finish(0),
+            Act::Start(0, TWO),
+            Act::Finish(0),
+        ],
+        groups: &[
+            (0, 0, TWO),
+            (0, 1, TWO),
+            (0, 2, TWO),
+            (0, 3, TWO),
+            (0, 4, TWO),
+            (0, 5, TWO),
+        ],
+        caller: 0,
+        answers: &[],
+        queue: &[],
+    };
+    assert_batches(&rt, rt.alloc(), &row)
 }
 
 #[test]
@@ -184,7 +255,7 @@ fn helpers_finish_dequeues_alone(rt: HostRuntime) -> Result<(), Fail> {
                 Act::Finish(0),
                 Act::Start(0, THREE),
                 Act::Until(0, StepKind::Install),
-                Act::Until(0, StepKind::LoadAnn),
+                Act::Until(0, StepKind::StoreAnnHazard),
                 Act::Start(1, &[Op::Deq]),
                 Act::Finish(1),
                 Act::Finish(0),
@@ -255,7 +326,7 @@ fn helpers_finish_dequeues_alone(rt: HostRuntime) -> Result<(), Fail> {
                 Act::Finish(0),
                 Act::Start(0, THREE),
                 Act::Until(0, StepKind::Install),
-                Act::Until(0, StepKind::LoadAnn),
+                Act::Until(0, StepKind::StoreAnnHazard),
                 Act::Start(1, &[Op::Deq]),
                 Act::Until(1, StepKind::LinkStopper),
                 Act::Start(2, &[Op::Enq(9)]),

@@ -41,10 +41,10 @@ fn schedules_give_their_histories(rt: HostRuntime) -> Result<(), Fail> {
             1,
         ),
         (
-            b"shape 1 2 8 100 0\nstart 0 e1 d\nfinish 0\nstart 0 e2 d\nfinish 0\n",
-            b"callers 1\ngroup 0 0 e1 d1\n# refused 0 full\n",
-            1,
-            2,
+            b"shape 1 2 1 100 0\nstart 0 e1 d\nfinish 0\nstart 0 e2 d\nfinish 0\nstart 0 e3 e4\nfinish 0\nstart 0 e5 e6\nfinish 0\nstart 0 e7 d\nfinish 0\n",
+            b"callers 1\ngroup 0 0 e1 d1\ngroup 0 1 e2 d2\ngroup 0 2 e3 e4\ngroup 0 3 e5 e6\n# refused 0 full\n",
+            4,
+            8,
         ),
         (
             b"shape 1 2 8 100 0\nstart 0 d\nuntil 0 install\nuntil 0 install",

@@ -11,7 +11,7 @@ use trace_text::{Verdict, check_history, play_schedule};
 #[test]
 fn caller_stops_before_each_kind_while_another_finishes(rt: HostRuntime) -> Result<(), Fail> {
     let seven: &[u8] = b"start 1 e7\nfinish 1\n";
-    let table: [(&[u8], &[u8], &[u8], &[u8], u64); 18] = [
+    let table: [(&[u8], &[u8], &[u8], &[u8], u64); 20] = [
         (b"", b"d", b"load_head", b"group 1 0 d-\n", 1),
         (b"", b"e5", b"load_tail", b"group 1 0 d-\n", 1),
         (b"", b"e5", b"load_link", b"group 1 0 d-\n", 1),
@@ -33,8 +33,16 @@ fn caller_stops_before_each_kind_while_another_finishes(rt: HostRuntime) -> Resu
             2,
         ),
         (b"", b"e5 e6 d", b"store_chain", b"group 1 0 d-\n", 1),
+        (b"", b"e5 e6 d", b"load_hazard", b"group 1 0 d-\n", 1),
         (b"", b"e5 e6 d", b"store_ann", b"group 1 0 d-\n", 1),
         (b"", b"e5 e6 d", b"install", b"group 1 0 d-\n", 1),
+        (
+            b"",
+            b"e5 e6 d",
+            b"store_ann_hazard",
+            b"group 0 0 e5 e6 d5\ngroup 1 0 d6\n",
+            2,
+        ),
         (
             b"",
             b"e5 e6 d",

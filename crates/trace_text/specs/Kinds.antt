@@ -23,6 +23,8 @@ kind_name kind.MoveHeadAnn = codes "move_head_ann"
 kind_name kind.MoveHeadMany = codes "move_head_many"
 kind_name kind.LinkStopper = codes "link_stopper"
 kind_name kind.Decide = codes "decide"
+kind_name kind.StoreAnnHazard = codes "store_ann_hazard"
+kind_name kind.LoadHazard = codes "load_hazard"
 
 -- whether a word is one of the kinds of plain calls
 abbrev pub is_plain_kind : List ℕ → Bool
@@ -40,6 +42,10 @@ is_batch_kind word =
 abbrev pub is_alone_kind : List ℕ → Bool
 is_alone_kind word = bytes_eq word (codes "move_head_many") || bytes_eq word (codes "link_stopper") || bytes_eq word (codes "decide")
 
+-- whether a word is one of those on the words that name what a caller holds
+abbrev pub is_hazard_kind : List ℕ → Bool
+is_hazard_kind word = bytes_eq word (codes "store_ann_hazard") || bytes_eq word (codes "load_hazard")
+
 -- whether a word is a kind
 abbrev pub is_kind : List ℕ → Bool
-is_kind word = is_plain_kind word || is_batch_kind word || is_alone_kind word
+is_kind word = is_plain_kind word || is_batch_kind word || is_alone_kind word || is_hazard_kind word

@@ -1,6 +1,6 @@
 // The words for the kinds of step.
 ghost use Rattle.std.specs.Prelude.{◌≡◌};
-ghost use Rattle.trace_text.specs.Kinds.{kind_name, is_plain_kind, is_batch_kind, is_alone_kind, is_kind};
+ghost use Rattle.trace_text.specs.Kinds.{kind_name, is_plain_kind, is_batch_kind, is_alone_kind, is_hazard_kind, is_kind};
 
 use step_core::StepKind;
 
@@ -28,6 +28,8 @@ pub(crate) fn kind_name(kind: StepKind) -> &'static [u8]
         StepKind::MoveHeadMany => b"move_head_many",
         StepKind::LinkStopper => b"link_stopper",
         StepKind::Decide => b"decide",
+        StepKind::StoreAnnHazard => b"store_ann_hazard",
+        StepKind::LoadHazard => b"load_hazard",
     }
 }
 
@@ -35,7 +37,7 @@ pub(crate) fn kind_name(kind: StepKind) -> &'static [u8]
 pub(crate) fn is_kind(word: &[u8]) -> bool
     ensures { result ≡ is_kind word.now }
 {
-    is_plain_kind(word) || is_batch_kind(word) || is_alone_kind(word)
+    is_plain_kind(word) || is_batch_kind(word) || is_alone_kind(word) || is_hazard_kind(word)
 }
 
 fn is_plain_kind(word: &[u8]) -> bool
@@ -70,4 +72,10 @@ fn is_alone_kind(word: &[u8]) -> bool
     word == b"move_head_many".as_slice()
         || word == b"link_stopper".as_slice()
         || word == b"decide".as_slice()
+}
+
+fn is_hazard_kind(word: &[u8]) -> bool
+    ensures { result ≡ is_hazard_kind word.now }
+{
+    word == b"store_ann_hazard".as_slice() || word == b"load_hazard".as_slice()
 }

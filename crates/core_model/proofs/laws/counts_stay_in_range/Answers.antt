@@ -18,7 +18,7 @@ pub returns-clause-head : goal.returns-clause-head
 returns-clause-head c = λ shape s p L is. head_fits (lane_sizes shape) s L (shape_fits shape) p is
 
 pub returns-clause-found : goal.returns-clause-found
-returns-clause-found c = λ shape s who L. names_rows (lane_sizes shape) s L (shape_fits shape) (target (s.callers who).point)
+returns-clause-found c = λ shape s who L. names_rows (lane_sizes shape) s L (shape_fits shape) (target who (s.callers who).point)
 
 pub returns-clause-announced : goal.returns-clause-announced
 returns-clause-announced c = λ shape s a n L is. announced_fits (lane_sizes shape) s L (shape_fits shape) a n is

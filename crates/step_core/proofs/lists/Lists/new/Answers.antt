@@ -15,10 +15,10 @@ returns-clause-opening c = let words = c.in_ok-words.ensures.opening ∙ ap open
 pub returns-clause-sound : goal.returns-clause-sound
 returns-clause-sound c = let none = nothing_due c.in_ok-calls.calls.items c.in_ok-calls.ensures.newcomers in record {
   lawful = subst (Lawful (lane_sizes c.args.shape)) (sym (returns-clause-opening c)) (opens c.args.shape);
-  sizes = c.in_ok-words.ensures.sizes ∙ (λ i. sizes_for (c.rows.ensures i) (c.anns.ensures i));
-  calls = c.in_ok-calls.ensures.len ∙ c.callers.ensures;
-  copies = c.in_ok-copies.ensures.len ∙ c.callers-2.ensures;
-  ready = subst (λ (n : ℕ). All (IsReady n) c.in_ok-calls.calls.items) c.batch.ensures c.in_ok-calls.ensures.ready;
+  sizes = c.in_ok-words.ensures.sizes ∙ (λ i. sizes_for (c.rows.ensures i) (c.anns.ensures i) (c.callers.ensures i));
+  calls = c.in_ok-calls.ensures.len ∙ c.callers-2.ensures;
+  copies = c.in_ok-copies.ensures.len ∙ c.callers-3.ensures;
+  ready = subst (λ (p : ℕ × ℕ). All (IsReady p.0 p.1) c.in_ok-calls.calls.items) (λ i. (c.batch.ensures i, c.callers-2.ensures i)) c.in_ok-calls.ensures.ready;
   reserved = omega arith;
   copied = λ d runs. absurd (runs (ap (λ (f : ℕ → Caller). (f d).point) (newcomers c.in_ok-calls.calls.items c.in_ok-calls.ensures.newcomers)));
 }

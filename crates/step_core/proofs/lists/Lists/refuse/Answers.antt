@@ -20,11 +20,11 @@ returns-clause-callers c = let ks = c.args.self.now.calls.items in let who = c.a
 
 pub returns-clause-sound : goal.returns-clause-sound
 returns-clause-sound c = let a = c.args.self.now in let ks = a.calls.items in let who = c.args.caller in let S = c.requires.sound in let before = c.index_mut-call.result.now in let n : length a.history.items ≡ vec_len a.history = search rules in
-    let R : IsReady a.shape.batch before = subst (IsReady a.shape.batch) (sym c.index_mut-call.ensures.value) (S.ready who before (search rules)) in
+    let R : IsReady a.shape.batch a.shape.callers before = subst (IsReady a.shape.batch a.shape.callers) (sym c.index_mut-call.ensures.value) (S.ready who before (search rules)) in
     let kept = due_kept ks who before c.refuse.new.self (search rules) c.index_mut-call.ensures.value (ap due c.refuse.ensures.refused) in let room = S.reserved in
     put_sound a _ S who _ (returns-clause-callers c)
     (subst (λ (m : ℕ). Lawful (lane_sizes a.shape) record { memory = memory_of a.words; history = a.history.items; callers = put (callers_of ks) who (refused (lane_sizes a.shape) m who (callers_of ks who)) }) n
     (refused_lawful (lane_sizes a.shape) (state_of a) S.lawful who c.requires.idle c.requires.known))
     refl refl refl (search rules) refl
-    (All-set (IsReady a.shape.batch) ks who c.refuse.new.self (subst (λ (n : ℕ). IsReady n c.refuse.new.self) R.answers c.refuse.ensures.ready) S.ready)
+    (All-set (IsReady a.shape.batch a.shape.callers) ks who c.refuse.new.self (subst (λ (p : ℕ × ℕ). IsReady p.0 p.1 c.refuse.new.self) (λ i. (R.answers i, R.named i)) c.refuse.ensures.ready) S.ready)
     (omega arith) (λ runs. absurd (runs c.requires.idle)) (λ _ _. refl)

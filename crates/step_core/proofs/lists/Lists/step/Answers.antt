@@ -1,18 +1,21 @@
-use Rattle.std.proofs.Common.{rules, ◌≡◌, ℕ, true, false, List, All, refl, sym, ap, ◌∙◌, subst, vec_len, vec_capacity}
+use Rattle.std.proofs.Common.{rules, ◌≡◌, true, false, List, All, refl, sym, ap, ◌∙◌, subst, IfSome, slice_get, vec_len, vec_capacity}
 use Rattle.bq_model.specs.declared.group.Group.{Group}
 use Rattle.bq_model.specs.declared.op.Op.{Op}
 use Rattle.std.specs.declared.vec.Vec.{Vec}
 use Rattle.std.specs.declared.alloc.Global.{Global}
 use Rattle.word_rows.specs.Sizes.{rows_of, anns_of}
+use Rattle.bq_model.specs.declared.shape.Shape.{Shape}
+use Rattle.core_model.specs.Functions.{put}
+use Rattle.core_model.specs.LaneSizes.{lane_sizes}
 use Rattle.core_model.specs.Ranges.{IsWord}
 use Rattle.core_model.specs.State.{read, write}
 use Rattle.core_model.specs.declared.act.Act.{Act}
 use Rattle.core_model.specs.Act.{location, effect}
-use Rattle.core_model.specs.Step.{linearizes}
+use Rattle.core_model.specs.Step.{after, linearizes}
 use Rattle.step_core.specs.declared.call.Call.{Call}
-use Rattle.step_core.specs.Calls.{IsReady}
+use Rattle.step_core.specs.Calls.{IsReady, MayGo}
 use Rattle.step_core.specs.Words.{memory_of, sizes_of, Sizes}
-use Rattle.step_core.specs.Lists.{copy_at}
+use Rattle.step_core.specs.Lists.{callers_of, copy_at}
 use Rattle.step_core.proofs.Callers.{step_is}
 use Rattle.step_core.proofs.Sound.{finds_word, fits_count, may_linearize, may_go, stays_sound}
 use Rattle.step_core.proofs.lists.Lists.step.Goals as goal
@@ -22,19 +25,19 @@ act-act-requires c = fits_count c.args.self.now c.requires.sound c.args.caller c
 
 pub read-found-requires-clause-links : goal.read-found-requires-clause-links
 read-found-requires-clause-links c = let a = c.args.self.now in let sizes = c.requires.sound.sizes in
-    subst (λ (z : Sizes). IsWord z.links z.old_tails c.location-word.result) (sym sizes) (subst (IsWord (rows_of a.shape) (anns_of a.shape)) (sym (c.location-word.ensures ∙ ap location c.act-act.ensures)) (finds_word a c.requires.sound c.args.caller c.point-point.result c.point-point.ensures))
+    subst (λ (z : Sizes). IsWord z.links z.ann_hazards z.old_tails c.location-word.result) (sym sizes) (subst (IsWord (rows_of a.shape) a.shape.callers (anns_of a.shape)) (sym (c.location-word.ensures ∙ ap location c.act-act.ensures)) (finds_word a c.requires.sound c.args.caller c.point-point.result c.point-point.ensures))
 
 pub read-found-requires-clause-values : goal.read-found-requires-clause-values
 read-found-requires-clause-values c = let a = c.args.self.now in let sizes = c.requires.sound.sizes in
-    subst (λ (z : Sizes). IsWord z.values z.notices c.location-word.result) (sym sizes) (subst (IsWord (rows_of a.shape) (anns_of a.shape)) (sym (c.location-word.ensures ∙ ap location c.act-act.ensures)) (finds_word a c.requires.sound c.args.caller c.point-point.result c.point-point.ensures))
+    subst (λ (z : Sizes). IsWord z.values z.ann_hazards z.notices c.location-word.result) (sym sizes) (subst (IsWord (rows_of a.shape) a.shape.callers (anns_of a.shape)) (sym (c.location-word.ensures ∙ ap location c.act-act.ensures)) (finds_word a c.requires.sound c.args.caller c.point-point.result c.point-point.ensures))
 
 pub write-requires-clause-links : goal.write-requires-clause-links
 write-requires-clause-links c = let a = c.args.self.now in let sizes = c.requires.sound.sizes in
-    subst (λ (z : Sizes). IsWord z.links z.old_tails c.location-word.result) (sym sizes) (subst (IsWord (rows_of a.shape) (anns_of a.shape)) (sym (c.location-word.ensures ∙ ap location c.act-act.ensures)) (finds_word a c.requires.sound c.args.caller c.point-point.result c.point-point.ensures))
+    subst (λ (z : Sizes). IsWord z.links z.ann_hazards z.old_tails c.location-word.result) (sym sizes) (subst (IsWord (rows_of a.shape) a.shape.callers (anns_of a.shape)) (sym (c.location-word.ensures ∙ ap location c.act-act.ensures)) (finds_word a c.requires.sound c.args.caller c.point-point.result c.point-point.ensures))
 
 pub write-requires-clause-values : goal.write-requires-clause-values
 write-requires-clause-values c = let a = c.args.self.now in let sizes = c.requires.sound.sizes in
-    subst (λ (z : Sizes). IsWord z.values z.notices c.location-word.result) (sym sizes) (subst (IsWord (rows_of a.shape) (anns_of a.shape)) (sym (c.location-word.ensures ∙ ap location c.act-act.ensures)) (finds_word a c.requires.sound c.args.caller c.point-point.result c.point-point.ensures))
+    subst (λ (z : Sizes). IsWord z.values z.ann_hazards z.notices c.location-word.result) (sym sizes) (subst (IsWord (rows_of a.shape) a.shape.callers (anns_of a.shape)) (sym (c.location-word.ensures ∙ ap location c.act-act.ensures)) (finds_word a c.requires.sound c.args.caller c.point-point.result c.point-point.ensures))
 
 pub add_group-requires : goal.add_group-requires
 add_group-requires c = record {
@@ -43,12 +46,15 @@ add_group-requires c = record {
 }
 
 pub go-requires-clause-may_go : goal.go-requires-clause-may_go
-go-requires-clause-may_go c = may_go c.args.self.now c.requires.sound c.add_group.new.self.calls.items c.args.caller (search rules) (search rules) c.requires.runs
+go-requires-clause-may_go c = subst (λ (z : Shape). IfSome (slice_get c.add_group.new.self.calls.items c.args.caller) (MayGo z c.args.caller)) (sym c.add_group.ensures.shape)
+    (may_go c.args.self.now c.requires.sound c.add_group.new.self.calls.items c.args.caller (search rules) (search rules) c.requires.runs)
 
 pub returns-clause-step : goal.returns-clause-step
 returns-clause-step c = step_is c.args.self.now c.add_group.new.self c.go.new.self c.write.new.self c.args.caller (vec_len c.add_group.new.self.history) c.point-point.result c.location-word.result c.read-found.result
     c.point-point.ensures (c.location-word.ensures ∙ ap location c.act-act.ensures) c.read-found.ensures (c.write.ensures.memory ∙ ap (write (memory_of c.args.self.now.words) c.location-word.result) (c.effect.ensures ∙ ap (λ (a : Act). effect a c.read-found.result) c.act-act.ensures)) c.add_group.ensures.words c.add_group.ensures.calls_stay c.add_group.ensures.history
-    c.go.ensures.rest.1 c.go.ensures.rest.2 (search rules) c.go.ensures.callers
+    c.go.ensures.rest.1 c.go.ensures.rest.2 (search rules)
+    (subst (λ (z : Shape). callers_of c.go.new.self.calls.items ≡ put (callers_of c.add_group.new.self.calls.items) c.args.caller
+    (after (lane_sizes z) (vec_len c.add_group.new.self.history) c.args.caller (callers_of c.add_group.new.self.calls.items c.args.caller) (callers_of c.add_group.new.self.calls.items c.args.caller).point c.read-found.result)) c.add_group.ensures.shape c.go.ensures.callers)
 
 pub returns-clause-sound : goal.returns-clause-sound
 returns-clause-sound c = let a = c.args.self.now in let d = c.add_group.new.self in let e = c.go.new.self in let who = c.args.caller in
@@ -57,7 +63,7 @@ returns-clause-sound c = let a = c.args.self.now in let d = c.add_group.new.self
     (ap sizes_of (c.go.ensures.rest.1 ∙ c.add_group.ensures.words) ∙ c.write.ensures.sizes_stay)
     (c.go.ensures.len ∙ ap (λ (v : Vec Call Global). vec_len v) c.add_group.ensures.calls_stay)
     (ap (λ (v : Vec (List Op) Global). vec_len v) c.go.ensures.rest.3 ∙ c.add_group.ensures.copies_len)
-    (subst (λ (n : ℕ). All (IsReady n) e.calls.items) (search rules) c.go.ensures.ready)
+    (subst (λ (z : Shape). All (IsReady z.batch z.callers) e.calls.items) c.add_group.ensures.shape c.go.ensures.ready)
     (ap (λ (v : Vec Group Global). vec_capacity v) c.go.ensures.rest.2 ∙ c.add_group.ensures.capacity)
     (λ other apart. ap (λ (v : Vec (List Op) Global). copy_at v.items other) c.go.ensures.rest.3 ∙ c.add_group.ensures.others other apart)
     (λ none other. let t = c.point-point.result in let found = c.read-found.ensures ∙ ap (read (memory_of a.words)) (c.location-word.ensures ∙ ap location c.act-act.ensures) in

@@ -1,0 +1,54 @@
+// A job file is run on each kind of lane, and the text of the replies is the same.
+ghost use Rattle.std.specs.Prelude.{◌≤◌};
+
+use bq_lane::BqLane;
+use bq_model::{Lane, Text};
+use bulk_dispatcher::{NoGate, run_hands};
+use job_text::{JobFile, print_reply, read_jobs};
+use std::alloc::Global;
+use std::process::Abort;
+use std::sync::Wait;
+use std::test::Fail;
+use std::thread::Threads;
+use turn_lane::TurnLane;
+
+// The text of the replies to the jobs, from so many hands that make so many dequeues as one.
+fn replied<L: Lane, R: Threads + Wait + Sync>(
+    rt: &R,
+    alloc: Global,
+    file: &JobFile,
+    hands: u32,
+    batch: u32,
+) -> Result<Text, Fail>
+    requires hands { (1 ≤ hands) × (hands ≤ 16) }
+    requires batch { (1 ≤ batch) × (batch ≤ 256) }
+{
+    let done = run_hands::<L, NoGate, R>(rt, alloc, file, hands, batch, &NoGate)?;
+    let mut text = Text::new(alloc);
+    for reply in done.replies.as_slice() {
+        print_reply(&mut text, reply.job(), reply.text())?;
+    }
+    Ok(text)
+}
+
+/// The replies to these jobs are these, by so many hands on either lane.
+pub fn replies_alike<R: Threads + Wait + Sync + Abort>(
+    rt: &R,
+    alloc: Global,
+    jobs: &[u8],
+    replies: &[u8],
+    hands: u32,
+    batch: u32,
+) -> Result<(), Fail>
+    requires hands { (1 ≤ hands) × (hands ≤ 16) }
+    requires batch { (1 ≤ batch) × (batch ≤ 256) }
+{
+    let Ok(file) = read_jobs(alloc, jobs) else {
+        return Err(Fail::from("no job file"));
+    };
+    let in_turns = replied::<TurnLane, R>(rt, alloc, &file, hands, batch)?;
+    assert!(rt; in_turns.as_slice() == replies, "in turns");
+    let without_locks = replied::<BqLane, R>(rt, alloc, &file, hands, batch)?;
+    assert!(rt; without_locks.as_slice() == replies, "without locks");
+    Ok(())
+}

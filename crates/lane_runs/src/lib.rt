@@ -1,0 +1,12 @@
+//! Tests of whole runs of a job file, over the lanes that there are.
+//!
+//! `alike` runs a file on each kind of lane. `nightly` has a short one, by several numbers of hands, and `many` a long one,
+//! by one hand.
+#![tactic(auto)]
+
+#[cfg(test)]
+mod alike;
+#[cfg(test)]
+mod many;
+#[cfg(test)]
+mod nightly;
