@@ -1,14 +1,17 @@
 -- A command that has gone on, and then goes on or ends.
-use Rattle.std.proofs.Common.{◌≡◌, ℕ, List, [], ◌∷◌, ◌++◌, length, sym, refl, ap, ◌∙◌, append_assoc}
+use Rattle.std.proofs.Common.{◌≡◌, ℕ, subst, Bool, true, false, List, [], ◌∷◌, ◌++◌, length, refl, sym, ap, ◌∙◌, append_assoc}
 use Rattle.atomic_table.specs.declared.shared.Seat.{Seat}
+use Rattle.std.proofs.lemmas.List.{append-nil}
 use Rattle.bq_model.specs.declared.op.Op.{Op}
 use Rattle.bq_model.specs.declared.op.Answer.{Answer}
 use Rattle.bq_model.specs.declared.group.Group.{Group}
-use Rattle.core_model.specs.State.{Command}
 use Rattle.lane_rule.specs.declared.view.View.{View}
+use Rattle.bq_model.specs.declared.shape.Shape.{Shape}
+use Rattle.lane_steps.specs.LaneSizes.{lane_sizes}
+use Rattle.row_stock.specs.Draws.{LacksRows}
 use Rattle.lane_rule.specs.Rule.{Begins}
 use Rattle.bq_lane.specs.declared.scratch.Scratch.{Scratch}
-use Rattle.bq_lane.specs.Running.{Same, GoesTo, EndsTo}
+use Rattle.bq_lane.specs.Running.{Same, GoesTo, HasEnded, EndsTo, Ended}
 
 begins_on : (a b c : List Group) → Begins a b → Begins b c → Begins a c
 begins_on a b c x y = (x.0 ++ y.0, y.1 ∙ (ap (λ (h : List Group). h ++ y.0) x.1 ∙ append_assoc a x.0 y.0))
@@ -25,24 +28,25 @@ module _ (p q r : Seat ℕ View) where
   }
 
   pub goes_then : GoesTo p q → GoesTo q r → GoesTo p r
-  goes_then a b = record { same = same_on a.same b.same; command = b.command ∙ a.command }
+  goes_then a b = record { same = same_on a.same b.same; ops = b.ops ∙ a.ops; mine = b.mine ∙ a.mine; started = b.started ∙ a.started }
 
-  pub ends_then : (ops : List Op) (xs : List Answer) (at : Scratch) → ops ≡ p.me.0.kept.ops → GoesTo p q → EndsTo q q.me.0.kept.ops xs at r → EndsTo p ops xs at r
-  ends_then ops xs at is a b = record {
-    same = same_on a.same b.same;
-    alone = b.alone;
-    heard = b.heard;
-    idle = b.idle;
-    none_left = b.none_left;
-    mine = b.mine ∙ (λ i. (a.command i).mine ++ record { caller = a.same.caller i; batch = length (a.command i).mine; ops = (ap (λ (m : Command). m.ops) a.command ∙ sym is) i } ∷ []);
-    taken = b.taken ∙ ap (λ (m : Command). m.taken) a.command;
-    stopped = b.stopped ∙ ap (λ (m : Command). m.stopped) a.command;
-    agrees = b.agrees;
-    started = b.started ∙ ap (λ (m : Command). m.started_at) a.command;
-    answers = b.answers;
-    outcome = b.outcome;
-    knows = b.knows;
-  }
+  -- what has ended since q has ended since p
+  module _ (ops : List Op) (at : Scratch) (is : ops ≡ p.me.0.kept.ops) (a : GoesTo p q) where
+    ended_then : HasEnded q at r → HasEnded p at r
+    ended_then b = record { same = same_on a.same b.same; alone = b.alone; heard = b.heard; idle = b.idle; none_left = b.none_left; agrees = b.agrees; few = b.few; apart = b.apart; knows = b.knows }
+
+    done_then : (xs : List Answer) → EndsTo q q.me.0.kept.ops xs at r → EndsTo p ops xs at r
+    done_then xs b = record {
+      ended = ended_then b.ended;
+      mine = b.mine ∙ (λ i. a.mine i ++ record { caller = a.same.caller i; batch = length (a.mine i); ops = (a.ops ∙ sym is) i } ∷ []);
+      started = b.started ∙ a.started;
+      answers = b.answers;
+      outcome = b.outcome;
+    }
+
+    pub ends_then : (xs : List Answer) (b : Bool) → Ended q q.me.0.kept.ops xs at r b → Ended p ops xs at r b
+    ends_then xs true e = done_then xs e
+    ends_then xs false e = (record { ended = ended_then e.0.ended; mine = e.0.mine ∙ a.mine; lacks = subst (λ (y : Shape × List Group × List Op). LacksRows (lane_sizes y.0) y.1 y.2) (λ i. (a.same.shape i, a.mine i, (a.ops ∙ sym is) i)) e.0.lacks }, e.1)
 
 pub goes_here : (p : Seat ℕ View) → GoesTo p p
-goes_here p = record { same = record { table = refl; id = refl; slots = refl; caller = refl; shape = refl; later = ([], sym (Rattle.std.proofs.lemmas.List.append-nil p.me.0.seen)) }; command = refl }
+goes_here p = record { same = record { table = refl; id = refl; slots = refl; caller = refl; shape = refl; later = ([], sym (append-nil p.me.0.seen)) }; ops = refl; mine = refl; started = refl }

@@ -4,8 +4,7 @@ use Rattle.atomic_table.specs.Table.{Me}
 use Rattle.bq_model.specs.declared.shape.Shape.{Shape}
 use Rattle.bq_model.specs.Own.{mine}
 use Rattle.bq_model.specs.Grows.{SawMore}
-use Rattle.core_model.specs.declared.point.Point.TheVariants.{Idle}
-use Rattle.core_model.specs.declared.start.Stock.{Stock}
+use Rattle.lane_steps.specs.declared.point.Point.TheVariants.{Idle}
 use Rattle.lane_rule.specs.declared.view.Kept.{Kept}
 use Rattle.lane_rule.specs.declared.view.Held.{Held}
 use Rattle.lane_rule.specs.declared.view.Kind.{Kind}
@@ -39,15 +38,15 @@ holds_right [] ys c k h = h
 holds_right (x ∷ xs) ys c k h = inr (holds_right xs ys c k h)
 
 -- a resting seat has a caller
-some_held : (me : Me ℕ View) (shape : Shape) (caller : ℕ) (stock : Stock) (operated : ℕ) (hand : Scratch) → Rests me shape caller stock operated hand → 1 ≤ length (held_as me.0.kind me.0)
-some_held me shape caller stock operated hand r = by me.0.kind refl where
+some_held : (me : Me ℕ View) (shape : Shape) (caller : ℕ) (batches : ℕ) (operated : ℕ) (hand : Scratch) → Rests me shape caller batches operated hand → 1 ≤ length (held_as me.0.kind me.0)
+some_held me shape caller batches operated hand r = by me.0.kind refl where
   by : (k : Kind) → me.0.kind ≡ k → 1 ≤ length (held_as k me.0)
   by Maker is = absurd (subst Idles is r.between_calls)
   by Alone is = omega arith
   by Gathered is = let two = r.several is in omega (arith, two)
   by Spent is = absurd (subst Idles is r.between_calls)
 
-module _ (a b w : Me ℕ View) (shape other : Shape) (caller operated : ℕ) (hand : Scratch) (caller' operated' : ℕ) (hand' : Scratch) (stock stock' : Stock) (ra : Rests a shape caller stock operated hand) (rb : Rests b other caller' stock' operated' hand')
+module _ (a b w : Me ℕ View) (shape other : Shape) (caller operated : ℕ) (hand : Scratch) (caller' operated' : ℕ) (hand' : Scratch) (batches batches' : ℕ) (ra : Rests a shape caller batches operated hand) (rb : Rests b other caller' batches' operated' hand')
     (kind : w.0.kind ≡ Gathered) (holds : w.0.gathered ≡ held_as a.0.kind a.0 ++ held_as b.0.kind b.0) (whole : IsWhole w.0) where
   all_held : held_as w.0.kind w.0 ≡ held_as a.0.kind a.0 ++ held_as b.0.kind b.0
   all_held = ap (λ (k : Kind). held_as k w.0) kind ∙ holds
@@ -65,13 +64,13 @@ module _ (a b w : Me ℕ View) (shape other : Shape) (caller operated : ℕ) (ha
   pub goes_on_second : Begins b.0.seen w.0.seen → (c : ℕ) → Contains (callers_of b.0) c → SawMore c b.0.seen w.0.seen
   goes_on_second begins c among = let k = held_of (held_as b.0.kind b.0) c among in record { more = begins.0; grown = begins.1; own = (of_second c k.0 k.1).1 ∙ sym (rb.own c k.0 k.1).1 }
 
-  pub rests_gathered : w.0.heard ≡ [] → w.1 ≡ [] → w.0.shape ≡ a.0.shape → Rests w shape caller stock operated hand
+  pub rests_gathered : w.0.heard ≡ [] → w.1 ≡ [] → w.0.shape ≡ a.0.shape → Rests w shape caller batches operated hand
   rests_gathered heard slots same = record {
     carries_none = slots;
     heard_none = heard;
     planned = same ∙ ra.planned;
     between_calls = subst Idles (sym kind) tt;
-    several = λ _. let all = ap length holds ∙ length-append (held_as a.0.kind a.0) (held_as b.0.kind b.0) in let one = some_held a shape caller stock operated hand ra in let two = some_held b other caller' stock' operated' hand' rb in omega (arith, all, one, two);
+    several = λ _. let all = ap length holds ∙ length-append (held_as a.0.kind a.0) (held_as b.0.kind b.0) in let one = some_held a shape caller batches operated hand ra in let two = some_held b other caller' batches' operated' hand' rb in omega (arith, all, one, two);
     proper = subst (λ (s : Shape). IsProper s.callers w.0.seen) (same ∙ ra.planned) whole.proper;
     own = λ c k h. ⊎_elim (of_first c k) (of_second c k) (holds_cases (held_as a.0.kind a.0) (held_as b.0.kind b.0) c k (subst (Holds c k) all_held h));
     alone = λ is. absurd (apart (sym kind ∙ is));

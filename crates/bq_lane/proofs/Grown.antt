@@ -32,12 +32,12 @@ grew p q ops xs at own a = record {
   between = between.0;
   after = a.stands.behind;
   grown = a.stands.splits ∙ (append_assoc a.stands.before (group_of p.me.0 ops ∷ []) a.stands.behind ∙ (λ i. between.1 i ++ its_group i ∷ a.stands.behind));
-  own = ap (mine q.me.0.seen) (sym a.same.caller) ∙ (a.own ∙ (a.grown ∙ (λ i. sym own i ++ its_group i ∷ [])));
+  own = ap (mine q.me.0.seen) (sym a.rested.same.caller) ∙ (a.rested.own ∙ (a.grown ∙ (λ i. sym own i ++ its_group i ∷ [])));
   answered = a.stands.right ∙ ap (λ (h : List Group). answers_from (last_queue h) ops) between.1;
 } where
   its_group : group_of p.me.0 ops ≡ next_group p.me.0.seen p.me.0.caller ops
   its_group = ap (λ (gs : List Group). record { caller = p.me.0.caller; batch = length gs; ops = ops }) (sym own)
 
   between : (m : List Group) × (a.stands.before ≡ p.me.0.seen ++ m)
-  between = goes_on_from p.me.0.seen a.stands.before a.same.later.0 (group_of p.me.0 ops ∷ a.stands.behind)
-      (sym a.same.later.1 ∙ (a.stands.splits ∙ append_assoc a.stands.before (group_of p.me.0 ops ∷ []) a.stands.behind)) a.placed
+  between = goes_on_from p.me.0.seen a.stands.before a.rested.same.later.0 (group_of p.me.0 ops ∷ a.stands.behind)
+      (sym a.rested.same.later.1 ∙ (a.stands.splits ∙ append_assoc a.stands.before (group_of p.me.0 ops ∷ []) a.stands.behind)) a.placed

@@ -9,8 +9,7 @@ use Rattle.bq_model.specs.History.{operations}
 use Rattle.bq_model.specs.Own.{mine}
 use Rattle.bq_model.specs.Grows.{the_caller}
 use Rattle.bq_model.specs.Rooms.{PassesAllowance}
-use Rattle.core_model.specs.declared.point.Point.TheVariants.{Idle}
-use Rattle.core_model.specs.declared.start.Stock.{Stock}
+use Rattle.lane_steps.specs.declared.point.Point.TheVariants.{Idle}
 use Rattle.lane_rule.specs.declared.view.Held.{Held}
 use Rattle.lane_rule.specs.declared.view.Kind.{Kind}
 use Rattle.lane_rule.specs.declared.view.Kind.TheVariants.{Maker, Alone, Gathered, Spent}
@@ -23,7 +22,7 @@ use Rattle.bq_lane.specs.Pass.{callers_of, Counted, Rests}
 pub one_alone : (v : View) → v.kind ≡ Alone → callers_of v ≡ v.caller ∷ []
 one_alone v is = ap (λ (k : Kind). map (λ (h : Held). h.caller) (held_as k v)) is
 
-module _ (me : Me ℕ View) (shape : Shape) (caller : ℕ) (stock : Stock) (operated : ℕ) (hand : Scratch) (r : Rests me shape caller stock operated hand) (one : length (callers_of me.0) ≡ 1) where
+module _ (me : Me ℕ View) (shape : Shape) (caller : ℕ) (batches : ℕ) (operated : ℕ) (hand : Scratch) (r : Rests me shape caller batches operated hand) (one : length (callers_of me.0) ≡ 1) where
   -- a seat of one caller is that of the one alone
   pub alone : me.0.kind ≡ Alone
   alone = by me.0.kind refl where
@@ -34,7 +33,7 @@ module _ (me : Me ℕ View) (shape : Shape) (caller : ℕ) (stock : Stock) (oper
     by Spent is = absurd (subst Idles is r.between_calls)
 
   -- what is known of it
-  pub its : Counted shape me.0 caller stock operated hand
+  pub its : Counted shape me.0 caller batches operated hand
   its = r.alone alone
 
   pub one_is : callers_of me.0 ≡ me.0.caller ∷ []
@@ -66,7 +65,7 @@ module _ (me : Me ℕ View) (shape : Shape) (caller : ℕ) (stock : Stock) (oper
   made_is = its.operated_is ∙ ap (λ (gs : List Group). length (operations gs)) own_there
 
   pub within : operated ≤ shape.allowance
-  within = let w = its.allowed.within in let e = its.operated_is in omega arith
+  within = let w = its.allowed in let e = its.operated_is in omega arith
 
   pub spent_is : (ops : List Op) → (shape.allowance < operated + length ops) ↔ PassesAllowance shape me.0.seen (the_caller (callers_of me.0)) ops
   spent_is ops = (subst (λ n. shape.allowance < n + length ops) made_is, subst (λ n. shape.allowance < n + length ops) (sym made_is))

@@ -7,16 +7,17 @@ use Rattle.bq_model.specs.declared.shape.Shape.{Shape}
 use Rattle.bq_model.specs.History.{operations}
 use Rattle.bq_model.specs.Own.{mine}
 use Rattle.bq_model.specs.Proper.{IsProper}
-use Rattle.core_model.specs.declared.point.Point.TheVariants.{Idle}
-use Rattle.core_model.specs.declared.start.Stock.{Stock}
-use Rattle.core_model.specs.LaneSizes.{lane_sizes}
+use Rattle.lane_steps.specs.declared.point.Point.TheVariants.{Idle}
+use Rattle.lane_steps.specs.Functions.{Distinct}
+use Rattle.lane_steps.specs.LaneSizes.{lane_sizes}
 use Rattle.core_model.specs.Lawful.{Allowed}
 use Rattle.lane_rule.specs.declared.view.Kept.{Kept}
 use Rattle.lane_rule.specs.declared.view.View.{View}
 use Rattle.lane_rule.specs.declared.view.Kind.TheVariants.{Alone, Gathered}
 use Rattle.lane_rule.specs.Seating.{held_as, Holds, Idles}
 use Rattle.bq_lane.specs.declared.scratch.Scratch.{Scratch}
-use Rattle.bq_lane.specs.Scratch.{Agrees, Reserves}
+use Rattle.bq_lane.specs.Running.{Agrees}
+use Rattle.bq_lane.specs.Scratch.{Reserves}
 
 -- a lane: its table and its shape
 pub record LaneState : Type 0 where
@@ -38,22 +39,23 @@ new_pass table shape c = record { table = table; shape = shape; callers = c ∷ 
 abbrev pub callers_of : View → List ℕ
 callers_of v = map (λ h. h.caller) (held_as v.kind v)
 
--- Of the one caller of a view, which is idle: its number, what it took of its rows and stoppers, how many groups it made, how
--- many operations these have, and what it has at hand.
-pub record Counted (shape : Shape) (v : View) (caller : ℕ) (stock : Stock) (operated : ℕ) (a : Scratch) : Type 0 where
+-- Of the one caller of a view, which is idle: its number, how many groups it made, how many operations these have, and what
+-- it has at hand.
+pub record Counted (shape : Shape) (v : View) (caller batches operated : ℕ) (a : Scratch) : Type 0 where
   pub caller_is : caller ≡ v.caller
   pub known : v.caller < shape.callers
-  pub taken : stock.taken ≡ v.kept.taken
-  pub stopped : stock.stopped ≡ v.kept.stopped
-  pub batch : stock.batch ≡ length v.kept.mine
+  pub batches_are : batches ≡ length v.kept.mine
   pub operated_is : operated ≡ length (operations v.kept.mine)
   -- each group has an operation
-  pub batch_within : stock.batch ≤ operated
-  pub allowed : Allowed (lane_sizes shape) v.kept.mine [] v.kept.taken v.kept.stopped
+  pub batches_within : batches ≤ operated
+  pub allowed : Allowed (lane_sizes shape) v.kept.mine []
   pub agrees : Agrees v.kept a
+  -- the rows that it has yet to free
+  pub few : length v.kept.retired < shape.callers
+  pub apart : Distinct v.kept.retired
 
 -- The seat of a pass between two calls, with what its calls have at hand.
-pub record Rests (me : Me ℕ View) (shape : Shape) (caller : ℕ) (stock : Stock) (operated : ℕ) (a : Scratch) : Type 0 where
+pub record Rests (me : Me ℕ View) (shape : Shape) (caller batches operated : ℕ) (a : Scratch) : Type 0 where
   pub carries_none : me.1 ≡ []
   pub heard_none : me.0.heard ≡ []
   pub planned : me.0.shape ≡ shape
@@ -62,5 +64,5 @@ pub record Rests (me : Me ℕ View) (shape : Shape) (caller : ℕ) (stock : Stoc
   pub proper : IsProper shape.callers me.0.seen
   -- each of its callers is idle, and what it has seen has of it the groups that it made
   pub own : (c : ℕ) (k : Kept) → Holds c k (held_as me.0.kind me.0) → (k.point ≡ Idle) × (mine me.0.seen c ≡ k.mine)
-  pub alone : me.0.kind ≡ Alone → Counted shape me.0 caller stock operated a
+  pub alone : me.0.kind ≡ Alone → Counted shape me.0 caller batches operated a
   pub reserves : Reserves shape a

@@ -4,15 +4,10 @@ use Rattle.bq_model.specs.declared.op.Op.{Op}
 use Rattle.bq_model.specs.declared.group.Group.{Group}
 use Rattle.bq_model.specs.declared.shape.Shape.{Shape}
 use Rattle.bq_model.specs.Own.{mine}
-use Rattle.bq_model.specs.Rooms.{PassesAllowance}
-use Rattle.core_model.specs.LaneSizes.{lane_sizes}
-use Rattle.core_model.specs.Start.{LacksRows}
+use Rattle.lane_steps.specs.LaneSizes.{lane_sizes}
+use Rattle.row_stock.specs.Draws.{LacksRows}
 
--- The enqueues of caller c so far and these are more than its item rows, or these are several dequeues alone and it has made
--- as many such batches as it has stoppers.
+-- The enqueues of caller c so far and these are more than its item rows; or these are several dequeues alone, and it has made as
+-- many such batches as it has stoppers.
 abbrev pub LacksRoom : Shape → List Group → ℕ → List Op → Type 0
 LacksRoom shape history c ops = LacksRows (lane_sizes shape) (mine history c) ops
-
--- It is within its allowance, and room is lacking.
-abbrev pub IsFull : Shape → List Group → ℕ → List Op → Type 0
-IsFull shape history c ops = (¬ PassesAllowance shape history c ops) × LacksRoom shape history c ops

@@ -1,5 +1,5 @@
 -- A running command of a seat, and what its next step makes of it.
-use Rattle.std.specs.Prelude.{◌≡◌, ℕ, suc, ◌<◌, ◌≤◌, ◌++◌, List, [], ◌∷◌, length, Some, vec_capacity}
+use Rattle.std.specs.Prelude.{◌≡◌, ℕ, ◌<◌, ◌≤◌, ◌++◌, Bool, true, false, List, [], ◌∷◌, length, Some}
 use Rattle.atomic_table.specs.Seated.{TableId}
 use Rattle.atomic_table.specs.declared.shared.Seat.{Seat}
 use Rattle.bq_model.specs.declared.op.Op.{Op}
@@ -7,40 +7,43 @@ use Rattle.bq_model.specs.declared.op.Answer.{Answer}
 use Rattle.bq_model.specs.declared.group.Group.{Group}
 use Rattle.bq_model.specs.declared.shape.Shape.{Shape}
 use Rattle.bq_model.specs.Values.{enqueued}
-use Rattle.core_model.specs.declared.point.Point.{Point}
-use Rattle.core_model.specs.declared.point.Point.TheVariants as point
-use Rattle.core_model.specs.declared.point.AnswerPoint.TheVariants as answer
-use Rattle.core_model.specs.declared.point.FillPoint.TheVariants as fill
-use Rattle.core_model.specs.declared.point.ManyPoint.TheVariants as many
-use Rattle.core_model.specs.declared.point.Notice.{Notice}
-use Rattle.core_model.specs.declared.point.Plan.{Plan}
-use Rattle.core_model.specs.declared.point.CallEnd.TheVariants.{Done}
-use Rattle.core_model.specs.State.{command}
-use Rattle.core_model.specs.Step.{closing_answers}
+use Rattle.lane_steps.specs.Answers.{closing_answers}
+use Rattle.lane_steps.specs.Functions.{Distinct}
+use Rattle.lane_steps.specs.declared.point.Closing.{Closing}
+use Rattle.lane_steps.specs.declared.point.Closing.TheVariants.{Plain, Batch, Full}
+use Rattle.lane_steps.specs.declared.point.Point.{Point}
+use Rattle.lane_steps.specs.declared.point.Point.TheVariants as point
+use Rattle.lane_steps.specs.declared.point.CallEnd.TheVariants.{Done}
+use Rattle.lane_rule.specs.declared.view.Kept.{Kept}
 use Rattle.lane_rule.specs.declared.view.View.{View}
 use Rattle.lane_rule.specs.declared.view.Kind.TheVariants.{Alone}
 use Rattle.lane_rule.specs.Rule.{caller_of, Begins}
+use Rattle.core_model.specs.Few.{ListsFit, HasFew}
 use Rattle.lane_rule.specs.Goes.{Knows}
+use Rattle.lane_steps.specs.LaneSizes.{lane_sizes}
+use Rattle.row_stock.specs.Draws.{LacksRows}
 use Rattle.lane_rule.specs.Begun.{begun}
 use Rattle.lane_rule.specs.Plays.{IsAt}
 use Rattle.bq_lane.specs.declared.next.Next.{Next}
 use Rattle.bq_lane.specs.declared.next.Next.TheVariants.{Goes, Ends}
 use Rattle.bq_lane.specs.declared.scratch.Scratch.{Scratch}
-use Rattle.bq_lane.specs.Scratch.{Agrees}
+use Rattle.bq_lane.specs.Scratch.{keeping, Reserves}
 
--- The seat's command is at this point, and what is at hand is its: the values of its enqueues, what it has read, and what
--- its view keeps of the hazard words. There is room for what it reads.
+-- what is at hand is what the view keeps
+abbrev pub Agrees : Kept → Scratch → Type 0
+Agrees k a = caller_of k ≡ keeping (caller_of k) a
+
+-- The seat's command is at this point, and what is at hand is its. There is room for what it adds to its lists.
 pub record Running (id : TableId) (key s : Shape) (c : ℕ) (t : Point) (a : Scratch) (p : Seat ℕ View) : Type 0 where
   pub stands : IsAt id key s c t p
   pub known : c < s.callers
   pub enqueues : a.puts.items ≡ enqueued p.me.0.kept.ops
-  pub has_read : p.me.0.kept.values ≡ a.values.items
   pub agrees : Agrees p.me.0.kept a
-  pub fits : length p.me.0.kept.ops ≤ vec_capacity a.values
-  pub names_fit : s.callers ≤ suc (vec_capacity a.named)
-  pub reads : (m r l : ℕ) → t ≡ point.Answer (answer.LoadValue m r l) → length p.me.0.kept.values < length p.me.0.kept.ops
-  pub walks : (d : Plan) (r l : ℕ) → t ≡ point.Many d (many.LoadValue r l) → length p.me.0.kept.values < length p.me.0.kept.ops
-  pub hears : (n : Notice) (e : ℕ) → t ≡ point.Fill n (fill.LoadHazard e) → (e < s.callers) × (suc (length p.me.0.kept.named) < s.callers)
+  pub reserves : Reserves s a
+  pub some : 0 < length p.me.0.kept.ops
+  pub short : length p.me.0.kept.ops ≤ s.batch
+  pub lists : ListsFit s.callers (caller_of p.me.0.kept)
+  pub few : HasFew s c (caller_of p.me.0.kept)
 
 -- the seat is still that of the caller, and has seen no less
 pub record Same (p q : Seat ℕ View) : Type 0 where
@@ -54,31 +57,53 @@ pub record Same (p q : Seat ℕ View) : Type 0 where
 -- the command of p has gone on to q
 pub record GoesTo (p q : Seat ℕ View) : Type 0 where
   pub same : Same p q
-  pub command : command (caller_of q.me.0.kept) ≡ command (caller_of p.me.0.kept)
+  pub ops : q.me.0.kept.ops ≡ p.me.0.kept.ops
+  pub mine : q.me.0.kept.mine ≡ p.me.0.kept.mine
+  pub started : q.me.0.kept.started_at ≡ p.me.0.kept.started_at
 
 -- the group of these operations that the caller of p makes next
 abbrev pub group_of : View → List Op → Group
 group_of v ops = record { caller = v.caller; batch = length v.kept.mine; ops = ops }
 
--- the command of p, of these operations, has ended with Done and these answers, and left this at hand
-pub record EndsTo (p : Seat ℕ View) (ops : List Op) (xs : List Answer) (a : Scratch) (q : Seat ℕ View) : Type 0 where
+-- the command of p has ended, and left this at hand
+pub record HasEnded (p : Seat ℕ View) (a : Scratch) (q : Seat ℕ View) : Type 0 where
   pub same : Same p q
   pub alone : q.me.0.kind ≡ Alone
   pub heard : q.me.0.heard ≡ []
   pub idle : q.me.0.kept.point ≡ point.Idle
   pub none_left : q.me.0.kept.ops ≡ []
-  pub mine : q.me.0.kept.mine ≡ p.me.0.kept.mine ++ group_of p.me.0 ops ∷ []
-  pub taken : q.me.0.kept.taken ≡ p.me.0.kept.taken
-  pub stopped : q.me.0.kept.stopped ≡ p.me.0.kept.stopped
   pub agrees : Agrees q.me.0.kept a
+  pub few : length q.me.0.kept.retired < q.me.0.shape.callers
+  pub apart : Distinct q.me.0.kept.retired
+  pub knows : Knows q.me.0
+
+-- it was of these operations, and has ended with Done and these answers
+pub record EndsTo (p : Seat ℕ View) (ops : List Op) (xs : List Answer) (a : Scratch) (q : Seat ℕ View) : Type 0 where
+  pub ended : HasEnded p a q
+  pub mine : q.me.0.kept.mine ≡ p.me.0.kept.mine ++ group_of p.me.0 ops ∷ []
   pub started : q.me.0.kept.started_at ≡ p.me.0.kept.started_at
   pub answers : q.me.0.kept.answers ≡ xs
   pub outcome : q.me.0.kept.outcome ≡ Some Done
-  pub knows : Knows q.me.0
+
+-- or with Full
+pub record EndsFull (p : Seat ℕ View) (ops : List Op) (a : Scratch) (q : Seat ℕ View) : Type 0 where
+  pub ended : HasEnded p a q
+  pub mine : q.me.0.kept.mine ≡ p.me.0.kept.mine
+  pub lacks : LacksRows (lane_sizes p.me.0.shape) p.me.0.kept.mine ops
+
+abbrev pub EndsSo : Seat ℕ View → List Op → Scratch → Seat ℕ View → Closing → Type 0
+EndsSo p ops a q (Plain x) = EndsTo p ops (closing_answers ops a.values.items (Plain x)) a q
+EndsSo p ops a q (Batch m) = EndsTo p ops (closing_answers ops a.values.items (Batch m)) a q
+EndsSo p ops a q Full = EndsFull p ops a q
+
+-- it was done, with these answers, or not, with none
+abbrev pub Ended : Seat ℕ View → List Op → List Answer → Scratch → Seat ℕ View → Bool → Type 0
+Ended p ops xs a q true = EndsTo p ops xs a q
+Ended p ops xs a q false = EndsFull p ops a q × (xs ≡ [])
 
 abbrev pub IsNext : TableId → Shape → Shape → ℕ → Scratch → Seat ℕ View → Seat ℕ View → Next → Type 0
 IsNext id key s c a p q (Goes t) = Running id key s c t a q × GoesTo p q
-IsNext id key s c a p q (Ends x) = EndsTo p p.me.0.kept.ops (closing_answers p.me.0.kept.ops a.values.items x) a q
+IsNext id key s c a p q (Ends x) = EndsSo p p.me.0.kept.ops a q x
 
 -- the seat as its command of these operations starts, when the history has n groups
 abbrev pub begun_seat : Seat ℕ View → ℕ → List Op → Seat ℕ View

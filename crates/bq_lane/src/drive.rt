@@ -1,19 +1,21 @@
 // A command on the table, step by step: the machine's points, each made on the table's words, until the command ends. One
 // general step serves all points, so a new kind of step costs nothing here.
-ghost use Rattle.std.specs.Prelude.{◌≡◌, ℕ, suc, ◌<◌, ◌≤◌, [], length, vec_capacity};
+ghost use Rattle.std.specs.Prelude.{◌≡◌, ℕ, ◌<◌, ◌≤◌, [], length};
 ghost use Rattle.bq_model.specs.Values.{enqueued};
-ghost use Rattle.core_model.specs.Step.{closing_answers};
+ghost use Rattle.lane_steps.specs.Answers.{closing_answers};
+ghost use Rattle.lane_steps.specs.Close.{is_done};
+ghost use Rattle.lane_steps.specs.Functions.{Distinct};
 ghost use Rattle.lane_rule.specs.Plays.{IsIdle};
-ghost use Rattle.bq_lane.specs.Applied.{Applied};
-ghost use Rattle.bq_lane.specs.Running.{Running, EndsTo, IsNext, begun_seat};
-ghost use Rattle.bq_lane.specs.Scratch.{Agrees, SameRoom};
+ghost use Rattle.bq_lane.specs.Applied.{Called};
+ghost use Rattle.bq_lane.specs.Running.{Agrees, Running, Ended, IsNext, begun_seat};
+ghost use Rattle.bq_lane.specs.Scratch.{Reserves, SameRoom, SamePuts};
 
 use crate::next::{Next, follow};
 use crate::scratch::Scratch;
 use bq_model::{Answers, Op, Shape};
-use core_model::{Closing, Point};
 use excess_count::pair;
 use lane_rule::{Command, Token, Words, first_step, step};
+use lane_steps::{Closing, Point};
 use std::marker::Brand;
 use std::sync::Wait;
 
@@ -28,7 +30,7 @@ fn advance(
 ) -> Next
     requires { Running words.now.table_id words.now.key shape.now caller point scratch.old token.old }
     ensures next { IsNext words.now.table_id words.now.key shape.now caller scratch.new token.old token.new result }
-    ensures room { SameRoom scratch.old scratch.new }
+    ensures same { SamePuts scratch.old scratch.new }
 {
     let found = step(words, shape, caller, token, point);
     follow(shape, caller, point, found, scratch)
@@ -48,21 +50,22 @@ fn begin<C: Command>(
     requires idle { IsIdle words.now.table_id words.now.key shape.now caller C.ops point token.old }
     requires known { caller < shape.now.callers }
     requires puts { scratch.old.puts.items ≡ enqueued C.ops }
-    requires none { scratch.old.values.items ≡ [] }
-    requires agrees { Agrees token.old.me.0.kept scratch.old }
-    requires room { length C.ops ≤ vec_capacity scratch.old.values }
-    requires names { shape.now.callers ≤ suc (vec_capacity scratch.old.named) }
+    requires agrees { (n : ℕ) → Agrees (begun_seat token.old n C.ops).me.0.kept scratch.old }
+    requires reserves { Reserves shape.now scratch.old }
+    requires few { length token.old.me.0.kept.retired < shape.now.callers }
+    requires apart { Distinct token.old.me.0.kept.retired }
     ensures next { (n : ℕ) × (length token.old.me.0.seen ≤ n)
         × IsNext words.now.table_id words.now.key shape.now caller scratch.new (begun_seat token.old n C.ops) token.new result }
-    ensures room { SameRoom scratch.old scratch.new }
+    ensures same { SamePuts scratch.old scratch.new }
 {
     let found = first_step::<C>(words, shape, caller, token, point);
     follow(shape, caller, point, found, scratch)
 }
 
-// Writes the answers of a command of these operations that has ended so, in place of what `out` had.
-fn answer(closing: Closing, ops: &[Op], values: &[u64], out: &mut Answers)
+// Writes the answers of a command of these operations that has ended so, in place of what `out` had. Gives whether it was done.
+fn answer(closing: Closing, ops: &[Op], values: &[u64], out: &mut Answers) -> bool
     requires room { (0 < out.old.capacity) × (length ops.now ≤ out.old.capacity) }
+    ensures done { result ≡ is_done closing }
     ensures answers { out.new.items ≡ closing_answers ops.now values.now closing }
     ensures capacity { out.new.capacity ≡ out.old.capacity }
 {
@@ -70,12 +73,20 @@ fn answer(closing: Closing, ops: &[Op], values: &[u64], out: &mut Answers)
         Closing::Plain(answer) => {
             out.clear();
             out.push(answer);
+            true
         }
-        Closing::Batch(queued) => pair(ops, queued, values, out),
+        Closing::Batch(queued) => {
+            pair(ops, queued, values, out);
+            true
+        }
+        Closing::Full => {
+            out.clear();
+            false
+        }
     }
 }
 
-// The running command, step by step to its end. It waits for as long as others win.
+// The running command, step by step to its end. Gives whether it was done. It waits for as long as others win.
 fn drive<R: Wait>(
     rt: &R,
     words: &Words,
@@ -86,11 +97,11 @@ fn drive<R: Wait>(
     ops: &[Op],
     scratch: &mut Scratch,
     out: &mut Answers,
-)
+) -> bool
     requires runs { Running words.now.table_id words.now.key shape.now caller first scratch.old token.old }
     requires ops { ops.now ≡ token.old.me.0.kept.ops }
     requires room { (0 < out.old.capacity) × (length ops.now ≤ out.old.capacity) }
-    ensures ends { EndsTo token.old ops.now out.new.items scratch.new token.new }
+    ensures ends { Ended token.old ops.now out.new.items scratch.new token.new result }
     ensures out { out.new.capacity ≡ out.old.capacity }
     ensures room { SameRoom scratch.old scratch.new }
 {
@@ -98,16 +109,13 @@ fn drive<R: Wait>(
     'steps: for _ in rt.forever() {
         match advance(words, shape, caller, token, point, scratch) {
             Next::Goes(next) => point = next,
-            Next::Ends(closing) => {
-                answer(closing, ops, scratch.values.as_slice(), out);
-                return;
-            }
+            Next::Ends(closing) => return answer(closing, ops, scratch.values.as_slice(), out),
         }
     }
     unreachable!()
 }
 
-/// A whole command of an idle caller, which begins at this point.
+/// A whole command of an idle caller, which begins at this point. Gives whether it was done.
 pub fn perform<R: Wait>(
     rt: &R,
     words: &Words,
@@ -118,16 +126,16 @@ pub fn perform<R: Wait>(
     ops: &[Op],
     scratch: &mut Scratch,
     out: &mut Answers,
-)
+) -> bool
     requires idle { IsIdle words.now.table_id words.now.key shape.now caller ops.now first token.old }
     requires known { caller < shape.now.callers }
     requires puts { scratch.old.puts.items ≡ enqueued ops.now }
-    requires none { scratch.old.values.items ≡ [] }
-    requires agrees { Agrees token.old.me.0.kept scratch.old }
-    requires values { length ops.now ≤ vec_capacity scratch.old.values }
-    requires names { shape.now.callers ≤ suc (vec_capacity scratch.old.named) }
+    requires agrees { (n : ℕ) → Agrees (begun_seat token.old n ops.now).me.0.kept scratch.old }
+    requires reserves { Reserves shape.now scratch.old }
+    requires few { length token.old.me.0.kept.retired < shape.now.callers }
+    requires apart { Distinct token.old.me.0.kept.retired }
     requires room { (0 < out.old.capacity) × (length ops.now ≤ out.old.capacity) }
-    ensures applied { Applied token.old ops.now out.new.items scratch.new token.new }
+    ensures called { Called token.old ops.now out.new.items scratch.new token.new result }
     ensures out { out.new.capacity ≡ out.old.capacity }
     ensures room { SameRoom scratch.old scratch.new }
 {

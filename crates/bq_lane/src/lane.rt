@@ -1,23 +1,22 @@
 // A lane without locks, with its calls.
-ghost use Rattle.std.specs.Prelude.{◌≡◌, ◌≢◌, ◌↔◌, ◌⊎◌, ◌<◌, ◌≤◌, [], ◌∷◌, length, IfOk, IsErrOf, OnOk, OnErr};
+ghost use Rattle.std.specs.Prelude.{◌≡◌, ◌≢◌, ◌↔◌, ◌<◌, ◌≤◌, [], ◌∷◌, length, IfOk, IsErrOf, OnOk, OnErr};
 ghost use Rattle.atomic_table.specs.Seated.{TableId};
 ghost use Rattle.bq_model.specs.declared.op.Op.{Op};
 ghost use Rattle.bq_model.specs.declared.op.Answer.{Answer};
 ghost use Rattle.bq_model.specs.Proper.{IsProper};
 ghost use Rattle.bq_model.specs.Grows.{the_caller, Grew, SawMore, AtSomePoint};
 ghost use Rattle.bq_model.specs.Rooms.{PassesAllowance};
-ghost use Rattle.excess_count.specs.Excess.{enqueue_count};
-ghost use Rattle.bq_lane.specs.Rooms.{LacksRoom, IsFull};
+ghost use Rattle.bq_lane.specs.Rooms.{LacksRoom};
 
 use crate::drive::perform;
 use crate::make::{make_passes, opening_words};
 use crate::pass::{Book, Pass, Seated};
-use crate::start::{fill_puts, has_rows};
+use crate::start::lay_out;
 use atomic_table::Table;
 use bq_model::{Answer, Answers, Batch, Lane, Op, OutOfMemory, Refusal, Shape};
-use core_model::stoppers_taken;
 use excess_count::count;
 use lane_rule::{LaneRule, View};
+use lane_steps::first_point;
 use std::alloc::Global;
 use std::marker::Model;
 use std::sync::Wait;
@@ -56,12 +55,12 @@ impl BqLane {
         requires not_too_long { length ops.now ≤ self.now.shape.batch }
         requires room_for_answers { length ops.now ≤ out.old.capacity }
         ensures ok { OnOk result (Grew (the_caller seated.old.callers) ops.now out.new.items seated.old.seen seated.new.seen) }
-        ensures refusal_changes_nothing { OnErr result (seated.new ≡ seated.old) }
+        ensures refused { OnErr result (SawMore (the_caller seated.old.callers) seated.old.seen seated.new.seen) }
+        ensures spent_changes_nothing { IsErrOf result Refusal.Spent → seated.new ≡ seated.old }
         ensures no_answers_when_refused { OnErr result (out.new.items ≡ []) }
         ensures capacity_stays { out.new.capacity ≡ out.old.capacity }
         ensures spent { IsErrOf result Refusal.Spent ↔ PassesAllowance self.now.shape seated.old.seen (the_caller seated.old.callers) ops.now }
-        ensures full { IsErrOf result Refusal.Full ↔ IsFull self.now.shape seated.old.seen (the_caller seated.old.callers) ops.now }
-        ensures fills { IsErrOf result Refusal.Full → (1 < length ops.now) ⊎ (0 < enqueue_count ops.now) }
+        ensures full { IsErrOf result Refusal.Full → LacksRoom self.now.shape seated.new.seen (the_caller seated.old.callers) ops.now }
         ensures proper { IsProper self.now.shape.callers seated.new.seen }
         ensures pass_stays { (seated.new.table ≡ seated.old.table) × (seated.new.shape ≡ seated.old.shape) × (seated.new.callers ≡ seated.old.callers) }
     {
@@ -70,21 +69,16 @@ impl BqLane {
             out.clear();
             return Err(Refusal::Spent);
         }
-        let counts = count(ops);
-        if !has_rows(&self.shape, seated.stock, counts.enqs, ops.len()) {
-            out.clear();
-            return Err(Refusal::Full);
-        }
-        fill_puts(&mut seated.scratch.puts, ops);
-        seated.scratch.values.clear();
-        let first = seated.stock.first_point(
+        lay_out(&mut seated.scratch, ops);
+        let first = first_point(
             &self.shape,
             seated.caller,
+            seated.batches,
             ops,
-            counts,
+            count(ops),
             seated.scratch.puts.as_slice(),
         );
-        perform(
+        let done = perform(
             rt,
             &self.table.shared,
             &self.shape,
@@ -95,9 +89,10 @@ impl BqLane {
             &mut seated.scratch,
             out,
         );
-        seated.stock.taken += counts.enqs;
-        seated.stock.stopped += stoppers_taken(ops.len(), counts.enqs);
-        seated.stock.batch += 1;
+        if !done {
+            return Err(Refusal::Full);
+        }
+        seated.batches += 1;
         seated.operated += operations;
         Ok(())
     }
@@ -168,9 +163,8 @@ impl Lane for BqLane {
         ensures proper { IsProper self.now.shape.callers pass.new.seen }
         ensures pass_stays { (pass.new.table ≡ pass.old.table) × (pass.new.shape ≡ pass.old.shape) × (pass.new.callers ≡ pass.old.callers) }
 
-        // What the caller itself has made decides of Full, and a refusal touches nothing.
-        ensures full_by_its_own { IsErrOf result Refusal.Full ↔ IsFull self.now.shape pass.old.seen (the_caller pass.old.callers) batch.now.items }
-        ensures refusal_changes_nothing { OnErr result (pass.new ≡ pass.old) }
+        // A call that is refused with Spent makes no step.
+        ensures spent_changes_nothing { IsErrOf result Refusal.Spent → pass.new ≡ pass.old }
     {
         self.make_ops(rt, &mut pass.seated, batch.as_slice(), out)
     }
@@ -184,8 +178,7 @@ impl Lane for BqLane {
         ensures full { IsErrOf result Refusal.Full → AtSomePoint (λ point. LacksRoom self.now.shape point (the_caller pass.old.callers) (Op.Enq v ∷ [])) pass.old.seen pass.new.seen }
         ensures proper { IsProper self.now.shape.callers pass.new.seen }
         ensures pass_stays { (pass.new.table ≡ pass.old.table) × (pass.new.shape ≡ pass.old.shape) × (pass.new.callers ≡ pass.old.callers) }
-        ensures full_by_its_own { IsErrOf result Refusal.Full ↔ IsFull self.now.shape pass.old.seen (the_caller pass.old.callers) (Op.Enq v ∷ []) }
-        ensures refusal_changes_nothing { OnErr result (pass.new ≡ pass.old) }
+        ensures spent_changes_nothing { IsErrOf result Refusal.Spent → pass.new ≡ pass.old }
     {
         self.make_ops(rt, &mut pass.seated, &[Op::Enq(v)], &mut pass.answer)
     }
@@ -199,7 +192,7 @@ impl Lane for BqLane {
         ensures never_full { ¬ IsErrOf result Refusal.Full }
         ensures proper { IsProper self.now.shape.callers pass.new.seen }
         ensures pass_stays { (pass.new.table ≡ pass.old.table) × (pass.new.shape ≡ pass.old.shape) × (pass.new.callers ≡ pass.old.callers) }
-        ensures refusal_changes_nothing { OnErr result (pass.new ≡ pass.old) }
+        ensures spent_changes_nothing { IsErrOf result Refusal.Spent → pass.new ≡ pass.old }
     {
         match self.make_ops(rt, &mut pass.seated, &[Op::Deq], &mut pass.answer) {
             Ok(()) => Ok(pass.answer.get(0)),

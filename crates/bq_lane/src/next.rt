@@ -1,54 +1,29 @@
 // What comes after a step of a command: the machine's course, with what the call has at hand.
-ghost use Rattle.std.specs.Prelude.{◌≡◌, ◌<◌, slice_index};
-ghost use Rattle.core_model.specs.LaneSizes.{lane_sizes};
-ghost use Rattle.core_model.specs.Step.{course};
-ghost use Rattle.core_model.specs.Ranges.{RowsFit};
-ghost use Rattle.bq_lane.specs.Next.{next_closing, next_read, next_of};
-ghost use Rattle.bq_lane.specs.Scratch.{After, HasRoom};
+ghost use Rattle.std.specs.Prelude.{◌≡◌, ℕ, ◌<◌};
+ghost use Rattle.bq_model.specs.Values.{enqueued};
+ghost use Rattle.lane_steps.specs.LaneSizes.{lane_sizes};
+ghost use Rattle.lane_steps.specs.State.{Caller};
+ghost use Rattle.lane_steps.specs.Step.{course, followed};
+ghost use Rattle.lane_steps.specs.Ranges.{RowsFit};
+ghost use Rattle.bq_lane.specs.Next.{Becomes};
+ghost use Rattle.bq_lane.specs.Scratch.{keeping, HasRoom, SamePuts};
 
-use crate::scan::{note, scan_from};
+use crate::close::{clear_ann, close, free_next, lose, mark, mark_all, pass, scan, scan_on};
+use crate::fill::{fill_on, link_on, take_stopper};
+use crate::read::{begin_reading, forget, read_more, remember};
+use crate::scan::{listen, note};
 use crate::scratch::Scratch;
 use bq_model::Shape;
-use core_model::{AnswerPoint, Closing, Course, FillPoint, Hold, Point};
+use lane_steps::{Closing, Course, Hold, Point, search};
 use word_rows::Content;
 
 /// What comes after a step of a command.
-#[derive(Clone, Copy, Debug, PartialEq, Eq, Hash)]
+#[derive(Clone, Copy)]
 pub enum Next {
     /// The step at this point.
     Goes(Point),
-    /// Nothing: it ended, and its answers are found so.
+    /// Nothing: it ended so, and its answers are found so.
     Ends(Closing),
-}
-
-// The value in this place, 0 where there is none.
-fn value_at(values: &[u64], place: usize) -> u64
-    ensures { result ≡ slice_index values.now place }
-{
-    values.get(place).copied().unwrap_or(0)
-}
-
-// The command has taken effect. It ends, once its caller's hazard word names nothing.
-fn close(hold: Hold, closing: Closing) -> Next
-    ensures { result ≡ next_closing hold closing }
-{
-    match hold {
-        Hold::Free => Next::Ends(closing),
-        Hold::Names(_) => Next::Goes(Point::Clear(closing)),
-        Hold::Held(_) => Next::Goes(Point::Clear(closing)),
-    }
-}
-
-// The owner of a batch on so many values reads on, or has read all.
-fn read_on(hold: Hold, queued: u64, row: u32, left: u32) -> Next
-    ensures { result ≡ next_read hold queued row left }
-{
-    if left == 0 {
-        close(hold, Closing::Batch(queued))
-    } else {
-        let left = left - 1;
-        Next::Goes(Point::Answer(AnswerPoint::LoadLink { queued, row, left }))
-    }
 }
 
 /// What comes after the step of this caller at this point that found this.
@@ -62,61 +37,97 @@ pub fn follow(
     requires known { caller < shape.now.callers }
     requires rows { RowsFit point }
     requires room { HasRoom shape.now.callers (course point found) scratch.old }
-    ensures next { result ≡ next_of (lane_sizes shape.now) caller scratch.old.puts.items scratch.old.named.items scratch.old.hold (course point found) }
-    ensures at_hand { After (course point found) scratch.old scratch.new }
+    ensures next { (n : ℕ) (k : Caller) → scratch.old.puts.items ≡ enqueued k.ops
+        → Becomes n caller k scratch.new result (followed (lane_sizes shape.now) n caller (keeping k scratch.old) (course point found)) }
+    ensures same { SamePuts scratch.old scratch.new }
 {
     match point.course(found) {
         Course::GoesOn(point) => Next::Goes(point),
-        Course::Fills {
-            notice,
-            number,
+        Course::Closes(closing) => close(closing, scratch),
+        Course::Lacks => close(Closing::Full, scratch),
+        Course::Passes {
+            closing,
+            dummy,
             row,
-        } => {
-            let value = value_at(scratch.puts.as_slice(), number as usize);
-            Next::Goes(Point::Fill(notice, FillPoint::StoreValue { number, row, value }))
+        } => pass(closing, dummy, row, scratch),
+        Course::Fills { notice, row } => {
+            scratch.rows.push_back_reserved(row);
+            fill_on(shape, caller, notice, scratch)
         }
-        Course::Scans(notice) => {
-            scratch.named.clear();
-            Next::Goes(scan_from(shape, caller, scratch.named.as_slice(), notice, 0))
+        Course::Chains { notice, number } => {
+            let last = number as usize + 2 == scratch.rows.len();
+            link_on(shape, caller, notice, number + 1, last, scratch)
         }
+        Course::Stops { notice, row } => take_stopper(shape, caller, notice, row, scratch),
+        Course::Takes(taking) => Next::Goes(search(shape, caller, taking)),
         Course::Hears {
             notice,
             caller: other,
             named,
         } => {
             note(&mut scratch.named, named);
-            Next::Goes(scan_from(shape, caller, scratch.named.as_slice(), notice, other + 1))
+            listen(shape, caller, notice, other + 1, scratch)
         }
         Course::Guards(point, hold) => {
             scratch.hold = hold;
             Next::Goes(point)
         }
-        Course::Ends(answer) => close(scratch.hold, Closing::Plain(answer)),
-        Course::Reads { queued, row, left } => {
-            scratch.values.clear();
-            read_on(scratch.hold, queued, row, left)
+        Course::Holds(point, hold) => {
+            scratch.row_hold = hold;
+            Next::Goes(point)
         }
+        Course::Reads {
+            reading,
+            row,
+            left,
+            linked,
+        } => begin_reading(reading, row, left, linked, scratch),
         Course::ReadsMore {
-            queued,
+            reading,
             row,
             left,
             value,
-        } => {
-            scratch.values.push_reserved(value);
-            read_on(scratch.hold, queued, row, left)
-        }
+        } => read_more(reading, row, left, value, scratch),
         Course::Walks(point) => {
-            scratch.values.clear();
+            forget(scratch);
             Next::Goes(point)
         }
-        Course::WalksMore(point, value) => {
-            scratch.values.push_reserved(value);
+        Course::WalksMore { point, row, value } => {
+            remember(row, value, scratch);
             Next::Goes(point)
         }
-        Course::Answers(queued) => close(scratch.hold, Closing::Batch(queued)),
-        Course::Clears(closing) => {
+        Course::Moves { dummy, queued } => {
+            mark_all(Closing::Batch(queued), false, dummy, scratch)
+        }
+        Course::Marks {
+            closing,
+            place,
+            both,
+            stopped,
+        } => mark(closing, place, both, stopped, scratch),
+        Course::Retires { closing, row } => {
+            scratch.retired.put(row);
+            lose(closing, scratch)
+        }
+        Course::ClearsNode(closing) => {
+            scratch.row_hold = Hold::Free;
+            clear_ann(closing, scratch)
+        }
+        Course::ClearsAnn(closing) => {
             scratch.hold = Hold::Free;
-            Next::Ends(closing)
+            scan(closing, scratch)
+        }
+        Course::Finds {
+            closing,
+            caller: other,
+            named,
+        } => {
+            note(&mut scratch.named, named);
+            scan_on(shape, closing, other, scratch)
+        }
+        Course::Frees(closing) => {
+            scratch.retired.take_unheld(scratch.named.as_slice());
+            free_next(closing, scratch)
         }
     }
 }

@@ -1,4 +1,4 @@
-// A pass of a lane: the seat of its callers, and of a single caller its number and what it took of its stock.
+// A pass of a lane: the seat of its callers, and of a single caller its number and what it made.
 ghost use Rattle.std.specs.Prelude.{◌≡◌, ◌<◌, ◌≤◌, ℕ, [], ◌++◌, length, Contains, IfOk};
 ghost use Rattle.word_rows.specs.Sizes.{words_of};
 ghost use Rattle.bq_model.specs.History.{operations};
@@ -10,7 +10,6 @@ ghost use Rattle.bq_lane.specs.Pass.{new_pass};
 
 use crate::scratch::Scratch;
 use bq_model::{Answers, OutOfMemory, Shape};
-use core_model::Stock;
 use lane_rule::{Token, Words, gather};
 use std::alloc::Global;
 use std::marker::Model;
@@ -22,8 +21,9 @@ pub struct Seated {
     pub(crate) token: Token,
     pub(crate) shape: Shape,
     pub(crate) caller: u32,
-    pub(crate) stock: Stock,
-    /// How many operations the caller made.
+    /// How many groups the caller made.
+    pub(crate) batches: u64,
+    /// How many operations these have.
     pub(crate) operated: u64,
     /// What a command has at hand.
     pub(crate) scratch: Scratch,
@@ -36,7 +36,7 @@ impl Model for Seated {
 
     ghost view = { λ p. record { table = p.token.table_id; shape = p.shape; callers = callers_of p.token.me.0; seen = p.token.me.0.seen } };
 
-    ghost invariant = { λ p. Rests p.token.me p.shape p.caller p.stock p.operated p.scratch };
+    ghost invariant = { λ p. Rests p.token.me p.shape p.caller p.batches p.operated p.scratch };
 }
 
 impl Seated {
@@ -56,11 +56,7 @@ impl Seated {
             token,
             shape: *shape,
             caller,
-            stock: Stock {
-                taken: 0,
-                stopped: 0,
-                batch: 0,
-            },
+            batches: 0,
             operated: 0,
         })
     }
@@ -98,7 +94,7 @@ impl Seated {
             token,
             shape,
             caller,
-            stock,
+            batches,
             operated,
             scratch,
         } = self;
@@ -106,7 +102,7 @@ impl Seated {
             token: joined,
             shape: _,
             caller: _,
-            stock: _,
+            batches: _,
             operated: _,
             scratch: _,
         } = other;
@@ -114,7 +110,7 @@ impl Seated {
             token: gather(words, token, joined),
             shape,
             caller,
-            stock,
+            batches,
             operated,
             scratch,
         }

@@ -1,7 +1,7 @@
 //! Tests of the lane without locks, as it runs.
 //!
-//! `bench` makes a lane of one caller and gives it batches, and `worked` has the worked examples. `beside` and `long` have
-//! callers in threads of their own.
+//! `bench` makes a lane of one caller and gives it batches, and `worked` has the worked examples. `beside`, `long`
+//! and `small` have callers in threads of their own.
 #![tactic(auto)]
 
 #[cfg(test)]
@@ -10,5 +10,7 @@ mod bench;
 mod beside;
 #[cfg(test)]
 mod long;
+#[cfg(test)]
+mod small;
 #[cfg(test)]
 mod worked;

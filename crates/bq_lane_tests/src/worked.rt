@@ -67,16 +67,42 @@ fn dequeues_alone_take_from_the_front(rt: HostRuntime) -> Result<(), Fail> {
     plays(&rt, rt.alloc(), &[], &two, &wanted, &[])
 }
 
+// A lane of one caller with batches of one operation and room for one value has five item rows. One of them is the dummy
+// once a value was taken, so four are free.
 #[test]
-fn rows_are_used_once(rt: HostRuntime) -> Result<(), Fail> {
-    let shape = Shape::new(1, 1, 1, 100, 0).ok_or("no shape")?;
+fn rows_are_used_again(rt: HostRuntime) -> Result<(), Fail> {
+    let shape = Shape::new(1, 1, 1, 1000, 0).ok_or("no shape")?;
     assert!(rt; shape.callers() == 1);
     let (lane, mut pass) = alone(rt.alloc(), &shape)?;
     let values = [1, 2, 3, 4, 5];
     assert!(rt; puts(&rt, &lane, &mut pass, &values));
     assert!(rt; lane.enqueue(&rt, &mut pass, 6) == Err(Refusal::Full));
     assert!(rt; takes(&rt, &lane, &mut pass, &values));
-    assert!(rt; lane.enqueue(&rt, &mut pass, 7) == Err(Refusal::Full));
-    assert!(rt; BqLane::made(&pass) == 10);
+    for _round in 0..50 {
+        let values = [6, 7, 8, 9];
+        assert!(rt; puts(&rt, &lane, &mut pass, &values));
+        assert!(rt; lane.enqueue(&rt, &mut pass, 10) == Err(Refusal::Full));
+        assert!(rt; takes(&rt, &lane, &mut pass, &values));
+        assert!(rt; lane.dequeue(&rt, &mut pass) == Ok(Answer::Empty));
+    }
+    assert!(rt; BqLane::made(&pass) == 460);
+    Ok(())
+}
+
+// With batches of eight it has twelve item rows. A batch that finds too few gives back those that it took.
+#[test]
+fn refused_batch_gives_its_rows_back(rt: HostRuntime) -> Result<(), Fail> {
+    let shape = Shape::new(1, 8, 1, 100, 0).ok_or("no shape")?;
+    assert!(rt; shape.callers() == 1 && shape.batch() == 8);
+    let (lane, mut pass) = alone(rt.alloc(), &shape)?;
+    let values = [1, 2, 3, 4, 5, 6, 7, 8, 9, 10];
+    assert!(rt; puts(&rt, &lane, &mut pass, &values));
+    let three = [Op::Enq(11), Op::Enq(12), Op::Enq(13)];
+    assert!(rt; applied(&rt, rt.alloc(), &lane, &mut pass, &three)?.is_none());
+    assert!(rt; puts(&rt, &lane, &mut pass, &[14, 15]));
+    assert!(rt; lane.enqueue(&rt, &mut pass, 16) == Err(Refusal::Full));
+    assert!(rt; takes(&rt, &lane, &mut pass, &values));
+    assert!(rt; takes(&rt, &lane, &mut pass, &[14, 15]));
+    assert!(rt; lane.dequeue(&rt, &mut pass) == Ok(Answer::Empty));
     Ok(())
 }

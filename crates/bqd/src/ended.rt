@@ -2,13 +2,13 @@
 ghost use Rattle.std.specs.Prelude.{◌≡◌, []};
 
 use crate::status::Status;
+use bq_lane::BqLane;
 use bq_model::{Items, Lane};
 use bulk_dispatcher::{Done, Reply};
 use std::alloc::Global;
-use turn_lane::TurnLane;
 
 /// The lane that serves jobs.
-pub type ServingLane = TurnLane;
+pub type ServingLane = BqLane;
 
 /// The whole history of a lane that served jobs.
 pub type Book = <ServingLane as Lane>::Book;

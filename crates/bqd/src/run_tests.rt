@@ -53,7 +53,7 @@ const CREWS: [&[&str]; 16] = [
 #[test]
 fn files_of_every_form_have_one_text(rt: HostRuntime) -> Result<(), Fail> {
     // No job; single jobs on one lane; units on all lanes; the longest block; and 300 units of three jobs on one lane,
-    // of which a hand alone dequeues two for each three that it puts, until its 256 values fill the lane.
+    // of which a hand alone dequeues two for each three that it puts, until it has no row left.
     for (units, jobs, lanes) in [(0, 0, 1), (20, 1, 1), (40, 2, 16), (1, 100, 1), (300, 3, 1)] {
         let (input, wanted) = sums(rt.alloc(), units, jobs, lanes)?;
         for words in CREWS {

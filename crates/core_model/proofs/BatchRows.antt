@@ -1,5 +1,5 @@
 -- The owner of a batch stores the fields of its announcement.
-use Rattle.std.proofs.Common.{◌≡◌, ◌≢◌, inl, ℕ, suc, ◌+◌, ◌<◌, List, [], ◌∷◌, length, get_or, sym, refl, ap, ◌∙◌, subst, arith, le_refl, Option, None}
+use Rattle.std.proofs.Common.{◌≡◌, ◌≢◌, inl, ℕ, suc, ◌+◌, ◌-◌, ◌<◌, ◌≤◌, List, [], ◌∷◌, length, get_or, sym, refl, ap, ◌∙◌, subst, arith, le_refl, Option, None}
 use Rattle.std.proofs.lemmas.List.{append-nil}
 use Rattle.bq_model.specs.declared.op.Op.{Op}
 use Rattle.bq_model.specs.declared.op.Op.TheVariants.{Enq, Deq}
@@ -9,27 +9,28 @@ use Rattle.excess_count.proofs.ExcessLaws.{enqueue_count-enq, enqueue_count-deq}
 use Rattle.word_rows.specs.declared.place.Place.{Place}
 use Rattle.word_rows.specs.declared.location.AnnField.{AnnField}
 use Rattle.word_rows.specs.declared.location.AnnField.TheVariants as field
-use Rattle.core_model.specs.declared.point.Notice.{Notice}
-use Rattle.core_model.specs.declared.point.Draft.{Draft}
-use Rattle.core_model.specs.declared.point.Point.{Point}
-use Rattle.core_model.specs.declared.point.Point.TheVariants as point
-use Rattle.core_model.specs.declared.point.BatchPoint.TheVariants as batch
-use Rattle.core_model.specs.Functions.{put, run}
-use Rattle.core_model.specs.LaneSizes.{LaneSizes}
-use Rattle.core_model.specs.Batches.{owner_of}
-use Rattle.core_model.specs.State.{Memory, Caller, State, command}
-use Rattle.core_model.specs.Fact.{written, head_written}
-use Rattle.core_model.specs.Step.{stepped, step_at}
-use Rattle.core_model.specs.Facts.{AllAgree, stored_before, Holds, AtPoint, Each}
+use Rattle.lane_steps.specs.declared.point.Notice.{Notice}
+use Rattle.lane_steps.specs.declared.point.Draft.{Draft}
+use Rattle.lane_steps.specs.declared.point.Point.TheVariants as point
+use Rattle.lane_steps.specs.declared.point.BatchPoint.TheVariants as batch
+use Rattle.lane_steps.specs.Functions.{put, run}
+use Rattle.lane_steps.specs.LaneSizes.{LaneSizes}
+use Rattle.lane_steps.specs.Batches.{owner_of}
+use Rattle.lane_steps.specs.State.{Memory, Caller, State, command}
+use Rattle.lane_steps.specs.Fact.{written, head_written}
+use Rattle.lane_steps.specs.Step.{stepped, step_at}
+use Rattle.core_model.specs.Facts.{Holds, AtPoint, Each}
+use Rattle.core_model.specs.Chosen.{AllAgree, stored_before}
 use Rattle.core_model.specs.Ghost.{unused, waiting, decided, Ghost, World}
 use Rattle.core_model.specs.Lawful.{Bound, Standing, Announced, Told, Pending, Lawful}
 use Rattle.core_model.proofs.Puts.{put_here, put_else}
-use Rattle.core_model.proofs.Stable.{unused_stable}
-use Rattle.core_model.proofs.Rely.{third, world, unused_waits, unused_decides, anns_moved, Rely}
-use Rattle.core_model.proofs.Preserves.{kept_stepped, Plain, preserves, changed, told_on, waits_on}
+use Rattle.core_model.proofs.RowsStable.{debts_stable, retires_stable}
+use Rattle.lane_steps.specs.Stopper.{passes}
+use Rattle.core_model.proofs.Rely.{third, world, unused_waits, unused_decides, anns_moved, rows_same, NoDebts, Rely}
+use Rattle.core_model.proofs.Preserves.{kept_stepped, debts_same, preserves, changed, told_on, waits_on}
 use Rattle.word_rows.specs.declared.location.AnnField.TheVariants.{BatchNo}
-use Rattle.core_model.specs.Batch as batching
-use Rattle.core_model.specs.declared.point.BatchPoint.{BatchPoint}
+use Rattle.lane_steps.specs.Batch as batching
+use Rattle.lane_steps.specs.declared.point.BatchPoint.{BatchPoint}
 
 -- a list by its values
 pub run_of : (vs : List ℕ) (f : ℕ → ℕ) (i : ℕ) → ((l : ℕ) → l < length vs → f (i + l) ≡ get_or vs l 0) → vs ≡ run f i (length vs)
@@ -51,7 +52,7 @@ module _ (z : LaneSizes) (s : State) (L : Lawful z s) (c : ℕ) where
 
   -- a word of an own announcement that isn't installed is stored
   module _ (a : ℕ) (fresh : G.stage a ≡ unused) (own : owner_of z a ≡ c) (notice' : ℕ → Notice) (old' : ℕ → Option Place) (notices : (x : ℕ) → x ≢ a → notice' x ≡ s.memory.notice x) (olds : (x : ℕ) → x ≢ a → old' x ≡ s.memory.old_tail x)
-      (plain : Plain z G c) (t : Point) where
+      (d : Draft) (t : BatchPoint) (call : Each z (world s L.ghost) c (batching.call_knows (command (s.callers c)) d)) where
     abbrev memory_ann : Memory
     memory_ann = record s.memory { notice = notice'; old_tail = old' }
 
@@ -75,9 +76,11 @@ module _ (z : LaneSizes) (s : State) (L : Lawful z s) (c : ℕ) where
       path_same = λ _ _. refl;
       chained_same = λ _ _. refl;
       spot_own = λ _ u _. u;
-      on_same = λ i r on. (on.spot, on.link, refl);
+      rows = rows_same (world s G) S (λ _ _ at. at) refl;
+      on_same = λ i r on _. (on.link, refl);
       link_own = λ _ _ _. refl;
       value_own = λ _ _ _. refl;
+      mark_own = λ _ _ _. refl;
       value_path = λ _ _ _. refl;
       anns = anns_moved z (world s G) S refl refl (λ x there. notices x (other x there)) (λ x q there e. olds x (other x there) ∙ e) (λ x at. (at, refl, refl));
       holds = λ _ _ e. inl e;
@@ -95,27 +98,36 @@ module _ (z : LaneSizes) (s : State) (L : Lawful z s) (c : ℕ) where
       unknown = λ x e. olds x (other_waits x e) ∙ A.unknown x e;
       recorded = λ x i q e is. A.recorded x i q e (sym (olds x (other_decided x i e)) ∙ is);
       unrecorded = λ x i e is. A.unrecorded x i e (sym (olds x (other_decided x i e)) ∙ is);
+      left = λ x i h e none old. subst (λ (n : Notice). h + passes n.counts (i - h) ≤ G.head) (sym (notices x (other_decided x i e))) (A.left x i h e none (ap (λ (n : Notice). n.old_head) (sym (notices x (other_decided x i e))) ∙ old));
       lags = A.lags;
     }
 
-    pub ann_stored : AtPoint z S c (stepped me t) t → Lawful z (changed s c memory_ann s.history (stepped me t))
-    ann_stored knows = preserves z s L c memory_ann s.history G (stepped me t) (λ _. ⊥) (λ _ x. absurd x) storing
-        (λ d n. record { linearized = refl; made = refl; drafts = λ x is u. let ne = λ (e : x ≡ a). n (sym is ∙ (ap (owner_of z) e ∙ own)) in (u, notices x ne, olds x ne); hazard = refl; held = refl })
-        L.history
+    still_debts : (e : ℕ) → NoDebts (world s G) S e
+    still_debts e = debts_same (world s G) S refl refl refl refl refl e
+
+    abbrev k' : Caller
+    k' = stepped (s.callers c) (point.Batch d t)
+
+    -- what it knows of its command, and now besides
+    pub ann_stored : Each z S c (batching.knows d t) → Lawful z (changed s c memory_ann s.history k')
+    ann_stored knows = preserves z s L c memory_ann s.history G k' (λ _. ⊥) (λ _ x. absurd x) storing
+        (λ d n. record { linearized = refl; made = refl; drafts = λ x is u. let ne = λ (e : x ≡ a). n (sym is ∙ (ap (owner_of z) e ∙ own)) in (u, notices x ne, olds x ne); hazard = refl; held = refl; row_hazard = refl; row_held = refl; debts = still_debts d })
+        L.marks L.history
         L.queue
         (record { rows = L.list.rows; item_rows = L.list.item_rows; head = L.list.head; tail = L.list.tail; counts = L.list.counts; links = L.list.links })
         announced_as
-        (told_on z s L c memory_ann G t (inl plain) (λ x at_head. subst (λ (n : Notice). Told z.home s.memory.value G.path (G.stage x) n (owner_of z x) (s.callers (owner_of z x))) (sym (notices x (other x (L.announced.installed x at_head)))) (L.told x at_head)))
-        (waits_on z s L c memory_ann G t (λ x waits. subst (λ (n : Notice). Pending z s.memory.link s.memory.value G.spot G.chain (G.linearized (owner_of z x)) n (owner_of z x) (s.callers (owner_of z x))) (sym (notices x (other_waits x waits))) (L.pending x waits)))
+        (told_on z s L c memory_ann G (point.Batch d t) (inl call.0.1) (λ x at_head. subst (λ (n : Notice). Told z.home s.memory.value G.path (G.stage x) n (owner_of z x) (s.callers (owner_of z x))) (sym (notices x (other x (L.announced.installed x at_head)))) (L.told x at_head)))
+        (waits_on z s L c memory_ann G (point.Batch d t) (λ x waits. subst (λ (n : Notice). Pending z s.memory.link s.memory.value s.memory.mark G.spot G.chain (G.linearized (owner_of z x)) n (owner_of z x) (s.callers (owner_of z x))) (sym (notices x (other_waits x waits))) (L.pending x waits)))
         (record {
           guards = (L.callers c).guards;
+          guards_row = (L.callers c).guards_row;
           own_groups = (L.callers c).own_groups;
           allowed = (L.callers c).allowed;
           knows = let f = (L.callers c).knows in record {
-            unused = unused_stable z (λ _. ⊥) (world s G) S storing c me.taken me.stopped (λ _ x. absurd x) f.unused;
+            retired = retires_stable z (λ _. ⊥) (world s G) S storing c (still_debts c).near (λ _ _ x. x) me.retired f.retired;
             started = f.started;
-            last = kept_stepped s.history c me t me.values f.last;
-            at_point = knows;
+            last = kept_stepped s.history c me (point.Batch d t) me.values me.walked f.last;
+            at_point = record { call = ((call.0.0, call.0.1, call.0.2, call.0.3, debts_stable z (λ _. ⊥) (world s G) S storing c (still_debts c) [] [] call.0.4), call.1); here = knows };
           };
         })
 
@@ -130,25 +142,24 @@ module _ (z : LaneSizes) (s : State) (L : Lawful z s) (c : ℕ) where
     head_stays : n.old_head ≡ (s.memory.notice d.ann).old_head → Holds z (world s L.ghost) c (head_written d) → Holds z said c (head_written d)
     head_stays same hw = record { fresh = hw.fresh; owner = hw.owner; old_head = ap (λ (y : Notice). y.old_head) (put_here s.memory.notice d.ann n) ∙ (same ∙ hw.old_head) }
 
-    said_stored : L.ghost.stage d.ann ≡ unused → owner_of z d.ann ≡ c → Plain z L.ghost c → (t : Point) → AtPoint z said c (stepped (s.callers c) t) t
-        → Lawful z (changed s c (record s.memory { notice = put s.memory.notice d.ann n }) s.history (stepped (s.callers c) t))
-    said_stored fresh own plain t knows = ann_stored d.ann fresh own (put s.memory.notice d.ann n) s.memory.old_tail (λ x ne. put_else s.memory.notice d.ann n x ne) (λ _ _. refl) plain t knows
+    said_stored : L.ghost.stage d.ann ≡ unused → owner_of z d.ann ≡ c → Each z (world s L.ghost) c (batching.call_knows (command (s.callers c)) d) → (t : BatchPoint) → Each z said c (batching.knows d t)
+        → Lawful z (changed s c (record s.memory { notice = put s.memory.notice d.ann n }) s.history (stepped (s.callers c) (point.Batch d t)))
+    said_stored fresh own call t knows = ann_stored d.ann fresh own (put s.memory.notice d.ann n) s.memory.old_tail (λ x ne. put_else s.memory.notice d.ann n x ne) (λ _ _. refl) d t call knows
 
   -- OldTail isn't known as it is stored
-  tail_stored : (d : Draft) → L.ghost.stage d.ann ≡ unused → owner_of z d.ann ≡ c → Plain z L.ghost c → (t : Point)
-      → AtPoint z record { memory = record s.memory { old_tail = put s.memory.old_tail d.ann None }; history = s.history; ghost = L.ghost } c (stepped (s.callers c) t) t
-      → Lawful z (changed s c (record s.memory { old_tail = put s.memory.old_tail d.ann None }) s.history (stepped (s.callers c) t))
-  tail_stored d fresh own plain t knows = ann_stored d.ann fresh own s.memory.notice (put s.memory.old_tail d.ann None) (λ _ _. refl) (λ y ne. put_else s.memory.old_tail d.ann None y ne) plain t knows
+  tail_stored : (d : Draft) → L.ghost.stage d.ann ≡ unused → owner_of z d.ann ≡ c → Each z (world s L.ghost) c (batching.call_knows (command (s.callers c)) d) → (t : BatchPoint)
+      → Each z record { memory = record s.memory { old_tail = put s.memory.old_tail d.ann None }; history = s.history; ghost = L.ghost } c (batching.knows d t)
+      → Lawful z (changed s c (record s.memory { old_tail = put s.memory.old_tail d.ann None }) s.history (stepped (s.callers c) (point.Batch d t)))
+  tail_stored d fresh own call t knows = ann_stored d.ann fresh own s.memory.notice (put s.memory.old_tail d.ann None) (λ _ _. refl) (λ y ne. put_else s.memory.old_tail d.ann None y ne) d t call knows
 
   -- one more field, where OldTail was stored first
   one_more : (d : Draft) (f : AnnField) (n : Notice) (next : AnnField) → Each z (world s L.ghost) c (batching.call_knows (command (s.callers c)) d) → Holds z (world s L.ghost) c (written d f)
       → AllAgree (stored_before next) (s.memory.old_tail d.ann) n d.notice → (t : BatchPoint) → (Holds z (said d n) c (written d next) → Each z (said d n) c (batching.knows d t))
       → Lawful z (changed s c (record s.memory { notice = put s.memory.notice d.ann n }) s.history (stepped (s.callers c) (point.Batch d t)))
-  one_more d f n next call w agrees t knows = said_stored d n w.fresh w.owner call.0.1 (point.Batch d t) (record { call = call; here = knows (next_written d n next w.fresh w.owner agrees) })
+  one_more d f n next call w agrees t knows = said_stored d n w.fresh w.owner call t (knows (next_written d n next w.fresh w.owner agrees))
 
   pub field_stored : (d : Draft) (f : AnnField) → L.ghost.stage d.ann ≡ unused → AtPoint z (world s L.ghost) c (s.callers c) (point.Batch d (batch.StoreField f)) → Lawful z (step_at z s c (point.Batch d (batch.StoreField f)))
-  field_stored d field.OldTail fresh x = let own = x.here.0.owner in tail_stored d fresh own x.call.0.1 (point.Batch d (batch.StoreField field.First))
-      (record { call = x.call; here = (record { fresh = fresh; owner = own; fields = (put_here s.memory.old_tail d.ann None, tt) }, tt) })
+  field_stored d field.OldTail fresh x = let own = x.here.0.owner in tail_stored d fresh own x.call (batch.StoreField field.First) (record { fresh = fresh; owner = own; fields = (put_here s.memory.old_tail d.ann None, tt) }, tt)
   field_stored d field.First _ x = one_more d field.First (record (s.memory.notice d.ann) { first = d.notice.first }) field.Last x.call x.here.0 (refl, x.here.0.fields) (batch.StoreField field.Last) (λ w. (w, tt))
   field_stored d field.Last _ x = one_more d field.Last (record (s.memory.notice d.ann) { last = d.notice.last }) field.Counts x.call x.here.0 (refl, x.here.0.fields) (batch.StoreField field.Counts) (λ w. (w, tt))
   field_stored d field.Counts _ x = one_more d field.Counts (record (s.memory.notice d.ann) { counts = d.notice.counts }) field.BatchNo x.call x.here.0 (refl, x.here.0.fields) (batch.StoreField field.BatchNo) (λ w. (w, tt))
@@ -163,10 +174,9 @@ module _ (z : LaneSizes) (s : State) (L : Lawful z s) (c : ℕ) where
   -- and where OldHead was
   pub whole_stored : (d : Draft) (f : AnnField) → L.ghost.stage d.ann ≡ unused → AtPoint z (world s L.ghost) c (s.callers c) (point.Batch d (batch.StoreAll f)) → Lawful z (step_at z s c (point.Batch d (batch.StoreAll f)))
   whole_stored d field.OldHead fresh x = let own = x.here.1.0.owner in let n : Notice = record (s.memory.notice d.ann) { old_head = d.notice.old_head } in
-      said_stored d n fresh own x.call.0.1 (point.Batch d (batch.StoreAll field.OldTail))
-      (record { call = x.call; here = (x.here.0, (record { fresh = fresh; owner = own; fields = tt }, (record { fresh = fresh; owner = own; old_head = ap (λ (y : Notice). y.old_head) (put_here s.memory.notice d.ann n) }, tt))) })
-  whole_stored d field.OldTail _ x = let w = x.here.1.0 in let hw = third x.here in tail_stored d w.fresh w.owner x.call.0.1 (point.Batch d (batch.StoreAll field.First))
-      (record { call = x.call; here = (x.here.0, (record { fresh = w.fresh; owner = w.owner; fields = (put_here s.memory.old_tail d.ann None, tt) }, (record { fresh = hw.fresh; owner = hw.owner; old_head = hw.old_head }, tt))) })
+      said_stored d n fresh own x.call (batch.StoreAll field.OldTail) (x.here.0, (record { fresh = fresh; owner = own; fields = tt }, (record { fresh = fresh; owner = own; old_head = ap (λ (y : Notice). y.old_head) (put_here s.memory.notice d.ann n) }, tt)))
+  whole_stored d field.OldTail _ x = let w = x.here.1.0 in let hw = third x.here in tail_stored d w.fresh w.owner x.call (batch.StoreAll field.First)
+      (x.here.0, (record { fresh = w.fresh; owner = w.owner; fields = (put_here s.memory.old_tail d.ann None, tt) }, (record { fresh = hw.fresh; owner = hw.owner; old_head = hw.old_head }, tt)))
   whole_stored d field.First _ x = let n : Notice = record (s.memory.notice d.ann) { first = d.notice.first } in
       one_more d field.First n field.Last x.call x.here.1.0 (refl, x.here.1.0.fields) (batch.StoreAll field.Last) (λ w. (x.here.0, (w, (head_stays d n refl (third x.here), tt))))
   whole_stored d field.Last _ x = let n : Notice = record (s.memory.notice d.ann) { last = d.notice.last } in

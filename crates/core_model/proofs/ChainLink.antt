@@ -1,6 +1,7 @@
 -- The exchange that links the chain or the stopper of an announcement: the batch of its owner takes effect, whoever helps.
-use Rattle.std.proofs.Common.{◌≡◌, inl, ℕ, suc, ◌+◌, ◌<◌, ◌≤◌, [], ◌∷◌, ◌++◌, take, sym, refl, ap, ◌∙◌, subst, arith, le_refl, ◌-◌}
+use Rattle.std.proofs.Common.{◌≡◌, inl, ℕ, suc, ◌+◌, ◌<◌, ◌≤◌, [], ◌∷◌, ◌++◌, take, sym, refl, ap, ◌∙◌, subst, arith, le_refl, ◌-◌, ltb, Bool, true, Option, Some, None}
 use Rattle.std.proofs.lemmas.List.{append-nil}
+use Rattle.std.proofs.lemmas.Bool.{lt-ltb}
 use mathlib.Core.Logic.{dite}
 use native.Mathlib.Decide.{ℕ_discrete}
 use Rattle.bq_model.specs.History.{last_queue}
@@ -11,27 +12,32 @@ use Rattle.word_rows.specs.declared.link_word.LinkWord.{LinkWord}
 use Rattle.word_rows.specs.declared.link_word.LinkWord.TheVariants.{Nil, Single, Chain, Shut}
 use Rattle.word_rows.specs.declared.location.Location.TheVariants.{Link}
 use Rattle.word_rows.specs.declared.content.Content.TheVariants.{OfLink}
-use Rattle.core_model.specs.declared.point.Help.{Help}
-use Rattle.core_model.specs.declared.point.Point.TheVariants as point
-use Rattle.core_model.specs.declared.point.HelpPoint.TheVariants as help
-use Rattle.core_model.specs.Functions.{put, run}
-use Rattle.core_model.specs.LaneSizes.{LaneSizes, IsItem}
+use Rattle.lane_steps.specs.declared.point.Help.{Help}
+use Rattle.lane_steps.specs.declared.point.Point.TheVariants as point
+use Rattle.lane_steps.specs.declared.point.HelpPoint.TheVariants as help
+use Rattle.lane_steps.specs.Functions.{put, run, upto, Distinct}
+use Rattle.lane_steps.specs.LaneSizes.{LaneSizes, IsItem}
 use Rattle.excess_count.specs.Counts.{successes_of}
-use Rattle.core_model.specs.Batches.{owner_of}
-use Rattle.core_model.specs.State.{State, own_group}
-use Rattle.core_model.specs.Step.{step_with, step_at}
-use Rattle.core_model.specs.Facts.{Linearized, AtPoint, NotToCome}
-use Rattle.core_model.specs.Ghost.{decided, LinkAt, On}
+use Rattle.lane_steps.specs.Batches.{owner_of}
+use Rattle.lane_steps.specs.State.{State, own_group}
+use Rattle.lane_steps.specs.Step.{rows_left, step_with, step_at}
+use Rattle.node_guard.specs.Pick.{among}
+use Rattle.word_rows.specs.declared.marks.Marks.{Marks}
+use Rattle.core_model.specs.Facts.{Linearized, Effect, AtPoint}
+use Rattle.core_model.specs.Rows.{Takes, Debts, OwnRows}
+use Rattle.core_model.specs.Ghost.{decided, owes, positions, LinkAt, On}
 use Rattle.core_model.specs.Lawful.{Lawful, InOrder, Bound, Standing, Announced}
 use Rattle.core_model.proofs.Puts.{put_here, put_else}
-use Rattle.core_model.proofs.Runs.{run_moved, take-run, placed_else}
-use Rattle.core_model.proofs.Rely.{fourth, world, Rely, some_none}
+use Rattle.core_model.proofs.Runs.{run_moved, take-run, placed_else, placed_here}
+use Rattle.core_model.proofs.Lists.{among_none}
+use Rattle.core_model.proofs.Owing.{pass_owed, read_owed, debts_owed}
+use Rattle.core_model.proofs.Rely.{fourth, world, Rely, rows_same, some_none, true_false}
 use Rattle.core_model.proofs.Preserves.{known, stutters, point_changes}
 use Rattle.core_model.proofs.Announces.{links_put}
 use Rattle.excess_count.specs.declared.counts.Counts.{Counts}
-use Rattle.core_model.specs.Stopper.{linked_rows, passes}
+use Rattle.lane_steps.specs.Stopper.{linked_rows, passes}
 use Rattle.core_model.proofs.Decisions as decision
-use Rattle.core_model.proofs.ChainRows.{Linking, G, a, o, ko, own, e, n, enqs, len, some, waits, at_head, bare, P, T, first_is, path', chained', spot', link', got, m, left, cause', G', memory', W, within_got, within_all, excess_is, links_are, passes_some, passes_none, tail_is, row_is, old_path, new_path, old_chained, end_chained, new_chained, own_link, old_spot, end_link, old_link, each_place, listed', headed', tailed', v', length_queue, all_values, queue', counts', rest_is}
+use Rattle.core_model.proofs.ChainRows.{Linking, G, a, o, ko, own, e, n, enqs, len, stops, rows_marked, some, waits, at_head, bare, P, T, first_is, path', chained', spot', link', got, m, left, cause', G', memory', W, within_got, within_all, excess_is, links_are, passes_some, passes_none, tail_is, row_is, old_path, new_path, old_chained, end_chained, new_chained, own_link, old_spot, end_link, old_link, each_place, listed', headed', tailed', v', length_queue, all_values, queue', counts', rest_is}
 use Rattle.core_model.proofs.Excess.{covered}
 
 module _ (K : Linking) where
@@ -73,7 +79,7 @@ module _ (K : Linking) where
   }
 
   announced' : Announced K.z (memory' K) (G' K)
-  announced' = decision.stages_decide K.z K.s K.L K.h.ann (K.L.ghost.head + K.L.ghost.rest) (len K) (waits K) (path' K) (chained' K) (spot' K) (K.L.ghost.rest + (len K)) (m K) (left K) (cause' K) (link' K) K.s.memory.old_tail
+  announced' = decision.stages_decide K.z K.s K.L K.h.ann (K.L.ghost.head + K.L.ghost.rest) (len K) (waits K) (path' K) (chained' K) (spot' K) (K.L.ghost.rest + (len K)) (m K) (got K) (stops K) (left K) (cause' K) (link' K) K.s.memory.old_tail
       (λ _ _. refl) (λ j le. (old_path K) j (omega arith)) bound_here bound_old standing_here
       (λ q is. absurd (some_none (sym is ∙ K.L.announced.unknown (a K) (waits K)))) (λ _. let t = tail_is K in let more = some K in (omega arith, some K)) (λ _ _. (tail_is K, let t = tail_is K in omega arith))
 
@@ -96,17 +102,22 @@ module _ (K : Linking) where
     path_same = (old_path K);
     chained_same = λ i below. (old_chained K) i (omega arith) (λ same. omega arith);
     spot_own = λ r u apart. placed_else (G K).chain (n K) (len K) (G K).spot r (λ i below same. apart (i, below, same)) ∙ u;
-    on_same = λ i r o_n. ((old_spot K) r i o_n.spot, linked_on i r o_n, refl);
+    rows = rows_same (world K.s (G K)) (W K) (old_spot K) refl;
+    on_same = λ i r o_n _. (linked_on i r o_n, refl);
     link_own = λ r u _. (own_link K) r u;
     value_own = λ _ _ _. refl;
+    mark_own = λ _ _ _. refl;
     value_path = λ _ _ _. refl;
-    anns = decision.anns_decide K.z K.s K.L K.h.ann (K.L.ghost.head + K.L.ghost.rest) (len K) (waits K) (path' K) (chained' K) (spot' K) (K.L.ghost.rest + (len K)) (m K) (left K) (cause' K) (link' K) K.s.memory.old_tail (λ _ _. refl) (inl (omega arith));
+    anns = decision.anns_decide K.z K.s K.L K.h.ann (K.L.ghost.head + K.L.ghost.rest) (len K) (waits K) (path' K) (chained' K) (spot' K) (K.L.ghost.rest + (len K)) (m K) (got K) (stops K) (left K) (cause' K) (link' K) K.s.memory.old_tail (λ _ _. refl) (inl (omega arith));
     holds = λ _ _ e. inl e;
     more = ((own K) ∷ [], refl);
   }
 
+  as_long : (Q : ℕ → Type 0) → Q (G K).rest → Q ((e K) - (G K).head)
+  as_long Q q = subst Q (sym (rest_is K)) q
+
   -- the owner's batch stands in the history, and its rows are there
-  linearized_here : Linearized K.z (W K) (a K) (e K) (ko K).started_at (own K)
+  linearized_here : Linearized K.z (W K) (o K) (a K) (e K) (ko K).started_at (own K)
   linearized_here = record {
     pre = K.s.history;
     post = [];
@@ -118,9 +129,12 @@ module _ (K : Linking) where
     before = omega arith;
     no_shorter = let l = length_queue K in omega arith;
     length_queue = inl ((length_queue K) ∙ sym (rest_is K));
-    values = subst (λ (y : ℕ). take (successes_of (K.s.memory.notice (a K)).counts y) (values_from (last_queue K.s.history) (ko K).ops) ≡ run (v' K) (suc (G K).head) (successes_of (K.s.memory.notice (a K)).counts y)) (sym (rest_is K))
+    inside = as_long (λ y. (G K).head + passes (K.s.memory.notice (a K)).counts y < positions (G' K)) (let all = within_all K in omega arith);
+    values = as_long (λ y. take (successes_of (K.s.memory.notice (a K)).counts y) (values_from (last_queue K.s.history) (ko K).ops) ≡ run (v' K) (suc (G K).head) (successes_of (K.s.memory.notice (a K)).counts y))
         (ap (take (got K)) (all_values K) ∙ take-run (v' K) (suc (G K).head) ((G K).rest + (enqs K)) (got K) (within_got K));
-    rows = λ x le. on_list x (subst (λ (y : ℕ). x ≤ successes_of (K.s.memory.notice (a K)).counts y) (rest_is K) le);
+    rows = as_long (λ y. (x : ℕ) → x ≤ successes_of (K.s.memory.notice (a K)).counts y → 0 < passes (K.s.memory.notice (a K)).counts y → On (W K) ((G K).head + x) ((path' K) ((G K).head + x))) (λ x le _. on_list x le);
+    to_pass = as_long (λ y. (x : ℕ) → x < passes (K.s.memory.notice (a K)).counts y → (G' K).passer ((G K).head + x) ≡ owes (o K)) (λ x below. pass_owed K.z K.s K.L (bare K) (o K) (got K) (stops K) ((G K).head + x) (omega arith) (omega arith));
+    to_read = as_long (λ y. (x : ℕ) → 0 < x → x ≤ successes_of (K.s.memory.notice (a K)).counts y → (G' K).reader ((G K).head + x) ≡ owes (o K)) (λ x late le. read_owed K.z K.s K.L (bare K) (o K) (got K) (stops K) ((G K).head + x) (omega arith) (omega arith));
   } where
     on_list : (x : ℕ) → x ≤ (got K) → On (W K) ((G K).head + x) ((path' K) ((G K).head + x))
     on_list x le = let all = within_all K in record {
@@ -129,6 +143,30 @@ module _ (K : Linking) where
       row = refl;
       link = ((λ last. ap (λ (y : ℕ). (link' K) ((path' K) y)) (let f : (G K).head + x ≡ (G K).head + ((G K).rest + (len K)) = omega arith in f) ∙ (listed' K).last), λ inside. (listed' K).joined ((G K).head + x) (omega arith) (omega arith));
     }
+
+  -- no row of the chain is taken any more
+  none_taken : Takes K.z (world K.s (G K)) (o K) (ko K).rows → Takes K.z (W K) (o K) []
+  none_taken t r home none kept fresh = by ((G K).spot r) refl where
+    by : (x : Option ℕ) → (G K).spot r ≡ x → among [] r ≡ true
+    by None at = let y = (P K).taken r (t r home at kept fresh) in absurd (some_none (sym (placed_here (G K).chain (n K) (len K) (G K).spot (P K).apart y.0 y.1) ∙ (ap (spot' K) y.2 ∙ none)))
+    by (Some i) at = absurd (some_none (sym (old_spot K r i at) ∙ none))
+
+  no_rows : OwnRows K.z (W K) (o K) []
+  no_rows = record { each = λ r is. absurd (among_none r is); distinct = tt }
+
+  -- its owner has the marks of the rows that it passes and reads to set
+  effect : Takes K.z (world K.s (G K)) (o K) (ko K).rows × Debts K.z (world K.s (G K)) (o K) [] [] × Distinct (ko K).rows → Effect K.z (W K) (o K) (a K) (e K) (ko K).started_at (own K) (ko K).rows
+  unfolding linearized_here
+  effect f = record {
+    stands = put_here (G K).linearized (o K) true;
+    batch = linearized_here;
+    taken = subst (λ (b : Bool). Takes K.z (W K) (o K) (rows_left b (ko K).rows)) (sym linked_some) (none_taken f.0);
+    loose = subst (λ (b : Bool). OwnRows K.z (W K) (o K) (rows_left b (ko K).rows)) (sym linked_some) no_rows;
+    debts = as_long (λ y. Debts K.z (W K) (o K) (upto (K.z.first + (G K).head) (passes (K.s.memory.notice (a K)).counts y)) (upto (K.z.first + suc (G K).head) (successes_of (K.s.memory.notice (a K)).counts y)))
+        (debts_owed K.z K.s K.L (bare K) (o K) (got K) (stops K) (memory' K) (K.s.history ++ (own K) ∷ []) (G' K) (le_refl _) f.1);
+  } where
+    linked_some : ltb 0 (linked_rows (K.s.memory.notice (a K)).counts ((e K) - (G K).head)) ≡ true
+    linked_some = ap (λ (y : ℕ). ltb 0 (linked_rows (K.s.memory.notice (a K)).counts y)) (rest_is K) ∙ lt-ltb 0 (linked_rows (K.s.memory.notice (a K)).counts (G K).rest) (let all = links_are K in let more = some K in omega arith)
 
   -- the rows of the announcement have the values of its owner's enqueues
   values' : enqueued (ko K).ops ≡ run (v' K) (suc (e K)) (enqs K)
@@ -147,8 +185,11 @@ module _ (K : Linking) where
 
   -- all callers are as they were, but that the owner's batch has taken effect
   pub rows_linked : Lawful K.z record { memory = memory' K; history = K.s.history ++ own K ∷ []; callers = K.s.callers }
-  rows_linked = decision.decision K.z K.s K.L K.h.ann (K.L.ghost.head + K.L.ghost.rest) (len K) (waits K) (path' K) (chained' K) (spot' K) (K.L.ghost.rest + (len K)) (m K) (left K) (cause' K) (link' K) K.s.memory.old_tail (λ _ _. refl) Touch rely
-      (λ r t. (sym (ap K.z.home t.2) ∙ (P K).homes t.0 t.1, subst (NotToCome K.z (o K) (ko K).taken (ko K).stopped) t.2 ((P K).taken t.0 t.1))) linearized_here (queue' K) list' announced' values'
+  rows_linked = decision.decision K.z K.s K.L K.h.ann (K.L.ghost.head + K.L.ghost.rest) (len K) (waits K) (path' K) (chained' K) (spot' K) (K.L.ghost.rest + (len K)) (m K) (got K) (stops K) (left K) (cause' K) (link' K) K.s.memory.old_tail (λ _ _. refl) Touch rely
+      (λ r t. (sym (ap K.z.home t.2) ∙ (P K).homes t.0 t.1, λ both. true_false (sym (ap (λ (x : Marks). x.passed) (ap K.s.memory.mark t.2 ∙ both)) ∙ ap (λ (x : Marks). x.passed) ((P K).marks t.0 t.1))))
+      refl stopper_last (old_spot K) (rows_marked K) effect (queue' K) list' announced' values' where
+        stopper_last : 0 < stops K → got K ≡ (G K).rest
+        stopper_last more = dite (ℕ_discrete (enqs K) 0) (λ none. (passes_none K none).1) (λ enough. let all = (passes_some K (omega arith)).0 in absurd (omega arith))
 
 module _ (z : LaneSizes) (s : State) (L : Lawful z s) (c : ℕ) where
   chain_found : (h : Help) (p : Place) → (s.callers c).point ≡ point.Help h (help.LinkChain p) → (x : LinkWord) → s.memory.link p.row ≡ x → AtPoint z (world s L.ghost) c (s.callers c) (point.Help h (help.LinkChain p)) → Lawful z (step_with z s c (point.Help h (help.LinkChain p)) (OfLink x))

@@ -1,5 +1,5 @@
 -- The list of rows, the queue and the announcements, with the chain of an announcement linked.
-use Rattle.std.proofs.Common.{◌≡◌, ◌≢◌, ℕ, suc, ◌+◌, ◌-◌, ◌<◌, ◌≤◌, Bool, true, false, [], ◌∷◌, ◌++◌, length, drop, sym, refl, ap, ◌∙◌, subst, arith, Option, Some, None}
+use Rattle.std.proofs.Common.{◌≡◌, ◌≢◌, ℕ, suc, ◌+◌, ◌-◌, ◌<◌, ◌≤◌, Bool, true, false, [], ◌∷◌, ◌++◌, length, drop, sym, refl, ap, ◌∙◌, subst, arith, eq-eqb, ne_eqb, ◌⊎◌, ⊎_elim, inl, inr, Option, Some, None}
 use mathlib.Core.Logic.{dite}
 use native.Mathlib.Decide.{ℕ_discrete, dec_le}
 use Rattle.bq_model.specs.declared.group.Group.{Group}
@@ -10,27 +10,29 @@ use Rattle.excess_count.specs.Got.{values_from}
 use Rattle.excess_count.proofs.ExcessLaws.{count-ops}
 use Rattle.excess_count.proofs.ReplayLaws.{queue_from-counted}
 use Rattle.word_rows.specs.declared.place.Place.{Place}
+use Rattle.word_rows.specs.declared.marks.Marks.{Marks}
 use Rattle.excess_count.specs.declared.counts.Counts.{Counts}
 use Rattle.word_rows.specs.declared.head_word.HeadWord.TheVariants.{Node}
 use Rattle.word_rows.specs.declared.link_word.LinkWord.{LinkWord}
 use Rattle.word_rows.specs.declared.link_word.LinkWord.TheVariants.{Nil, Chain}
-use Rattle.core_model.specs.declared.point.Help.{Help}
-use Rattle.core_model.specs.Functions.{put, run}
-use Rattle.core_model.specs.LaneSizes.{LaneSizes}
-use Rattle.core_model.specs.Batches.{owner_of}
-use Rattle.core_model.specs.State.{Memory, Caller, State, own_group}
-use Rattle.core_model.specs.Fact.{reads, linked, tail_seen, before_end, too_few}
+use Rattle.lane_steps.specs.declared.point.Help.{Help}
+use Rattle.lane_steps.specs.Functions.{put, run}
+use Rattle.lane_steps.specs.LaneSizes.{LaneSizes}
+use Rattle.lane_steps.specs.Batches.{owner_of}
+use Rattle.lane_steps.specs.State.{Memory, Caller, State, own_group}
+use Rattle.lane_steps.specs.Fact.{reads, linked, tail_seen, before_end, too_few}
 use Rattle.core_model.specs.Facts.{Holds}
-use Rattle.core_model.specs.Ghost.{Stage, unused, waiting, decided, Ghost, World, positions, joint, Unlinked}
+use Rattle.core_model.specs.Ghost.{Stage, unused, waiting, decided, is_paid, Ghost, World, positions, joint, Unlinked}
 use Rattle.core_model.specs.Lawful.{shown_queue, head_word, Listed, Headed, Tailed, Told, Pending, Lawful}
 use Rattle.core_model.proofs.Puts.{put_here, put_else, run_same}
 use Rattle.core_model.proofs.Groups.{length-operations-push}
-use Rattle.core_model.proofs.Runs.{length-run, run_moved, run_parted, drop-run, then, then_old, then_new, placed, placed_else, placed_here}
+use Rattle.core_model.proofs.Runs.{length-run, run_moved, run_parted, drop-run, then, then_old, then_new, placed, placed_else, placed_here, placed_which}
 use Rattle.core_model.proofs.Rely.{world, one_some, some_none}
 use Rattle.core_model.proofs.Lookups.{is_last}
-use Rattle.core_model.specs.Stopper.{chain_rows, linked_rows, passes}
+use Rattle.lane_steps.specs.Stopper.{chain_rows, stoppers, linked_rows, passes}
 use Rattle.core_model.proofs.Counting.{chain_pos, chain_some, chain_none, linked_all, linked_none, stopper_one, stopper_none}
 use Rattle.core_model.proofs.Decisions as decision
+use Rattle.core_model.proofs.Owing.{owed_reader, stop_paid, not_paid}
 use Rattle.core_model.proofs.Excess.{covered, all_excess}
 
 differ : true ≡ false → ⊥
@@ -136,7 +138,7 @@ module _ (K : Linking) where
   pub bare : G.shown ≡ 0
   bare = decision.bare z s L h.ann (L.ghost.head + L.ghost.rest) len waits
 
-  pub P : Pending z s.memory.link s.memory.value G.spot G.chain (G.linearized o) (s.memory.notice a) o ko
+  pub P : Pending z s.memory.link s.memory.value s.memory.mark G.spot G.chain (G.linearized o) (s.memory.notice a) o ko
   P = decision.waiting_rows z s L h.ann (L.ghost.head + L.ghost.rest) len waits
 
   pub T : Told z.home s.memory.value G.path (G.stage a) (s.memory.notice a) o ko
@@ -157,9 +159,13 @@ module _ (K : Linking) where
   abbrev pub link' : ℕ → LinkWord
   link' = put s.memory.link p.row (Chain h.first)
 
-  -- how many values the batch gets, how many rows the head passes for it, and how many are left behind the shown head
+  -- how many values the batch gets, whether it links its stopper, how many rows the head passes for it, and how many are left
+  -- behind the shown head
   abbrev pub got : ℕ
   got = successes_of (s.memory.notice h.ann).counts L.ghost.rest
+
+  abbrev pub stops : ℕ
+  stops = stoppers (s.memory.notice h.ann).counts L.ghost.rest
 
   abbrev pub m : ℕ
   m = passes (s.memory.notice h.ann).counts L.ghost.rest
@@ -171,7 +177,7 @@ module _ (K : Linking) where
   cause' = put L.ghost.cause (L.ghost.head + L.ghost.rest) h.ann
 
   abbrev pub W : World
-  W = decision.decided_world z s L h.ann (L.ghost.head + L.ghost.rest) len waits path' chained' spot' (L.ghost.rest + len) m left cause' link' s.memory.old_tail
+  W = decision.decided_world z s L h.ann (L.ghost.head + L.ghost.rest) len waits path' chained' spot' (L.ghost.rest + len) m got stops left cause' link' s.memory.old_tail
 
   abbrev pub G' : Ghost
   G' = W.ghost
@@ -274,6 +280,22 @@ module _ (K : Linking) where
       (ap link' (new_path i (i - n) at_i) ∙ (own_link (G.chain (i - n)) (P.unlinked (i - n) (omega arith)) ∙ P.joined (i - n) (omega arith)))
       ∙ sym (λ y. joint (new_chained i (i - n) at_i y) (new_path (suc i) (suc (i - n)) (omega arith) y))))
 
+  -- a fact of each row that has a position
+  new_or_old : (Q : ℕ → ℕ → Type 0) → ((j : ℕ) → j < len → Q (G.chain j) (n + j)) → ((r i : ℕ) → G.spot r ≡ Some i → Q r i) → (r i : ℕ) → spot' r ≡ Some i → Q r i
+  new_or_old Q new old r i at_i = ⊎_elim (λ (x : (j : ℕ) × (j < len) × (G.chain j ≡ r) × (i ≡ n + j)). subst (λ (y : ℕ). Q r y) (sym x.3) (subst (λ (y : ℕ). Q y (n + x.0)) x.2 (new x.0 x.1)))
+      (λ (was : G.spot r ≡ Some i). old r i was) (placed_which G.chain n len G.spot r i at_i)
+
+  -- a row of the chain has the marks of one that was taken
+  chain_marks : (j : ℕ) → j < len → (s.memory.mark (G.chain j)).read ≡ is_paid (owed_reader G.reader G.head o got stops (n + j))
+  chain_marks j below = ap (λ (x : Marks). x.read) (P.marks j below) ∙ dite (ℕ_discrete enqs 0)
+      (λ none. let x = passes_none none in let all = x.0 in let read = x.1 in let one = x.2 in eq-eqb enqs 0 none ∙ sym (ap is_paid (stop_paid z s L bare o got stops (n + j) (omega arith) (omega arith))))
+      (λ more. let x = (passes_some (omega arith)).0 in ne_eqb enqs 0 more ∙ sym (not_paid z s L bare o got stops (omega arith) (n + j) (omega arith)))
+
+  pub rows_marked : (r i : ℕ) → spot' r ≡ Some i
+      → (G.spot r ≡ Some i) ⊎ ((G.head ≤ i) × ((s.memory.mark r).free ≡ false) × ((s.memory.mark r).passed ≡ false) × ((s.memory.mark r).read ≡ is_paid (owed_reader G.reader G.head o got stops i)))
+  rows_marked = new_or_old (λ r i. (G.spot r ≡ Some i) ⊎ ((G.head ≤ i) × ((s.memory.mark r).free ≡ false) × ((s.memory.mark r).passed ≡ false) × ((s.memory.mark r).read ≡ is_paid (owed_reader G.reader G.head o got stops i))))
+      (λ j below. inr (omega arith, ap (λ (x : Marks). x.free) (P.marks j below), ap (λ (x : Marks). x.passed) (P.marks j below), chain_marks j below)) (λ r i at_i. inl at_i)
+
   pub listed' : Listed z.rows link' path' chained' spot' G.head (G.rest + len)
   listed' = record {
     joined = joined';
@@ -281,6 +303,7 @@ module _ (K : Linking) where
         ap link' (new_path (G.head + (G.rest + len)) (len - 1) (omega arith)) ∙ (own_link (G.chain (len - 1)) (P.unlinked (len - 1) (omega arith)) ∙ P.last (len - 1) last);
     spots = each_place (λ i r. spot' r ≡ Some i) G.head (λ i from below. old_spot (G.path i) i (L.list.rows.spots i from below)) (placed_here G.chain n len G.spot P.apart);
     inside = λ i below. each_place (λ i r. r < z.rows) 0 (λ i _ below. L.list.rows.inside i below) P.inside i (omega arith) below;
+    placed = new_or_old (λ r i. (i < positions G') × (path' i ≡ r)) (λ j below. (omega arith, new_path (n + j) j refl)) (λ r i at_i. let there = L.list.rows.placed r i at_i in let below = there.0 in (omega arith, old_path i below ∙ there.1));
   }
 
   pub headed' : Headed z.first s.memory.head path' G.head (G.rest + len) G.ann m left
@@ -327,7 +350,7 @@ module _ (K : Linking) where
       ∙ (ap (drop got) all_values ∙ (drop-run v' (suc G.head) (G.rest + enqs) got within_got ∙ left_values)))
 
   pub counts' : G.head + (G.rest + len) ≤ length (operations (s.history ++ own ∷ []))
-  counts' = let made = L.list.counts in let all = length-operations-push s.history own in let k = ap (λ (y : Counts). y.enqs) T.describes.counts in let parts = count-ops ko.ops in let ops = T.some in
+  counts' = let made = L.list.counts in let all = length-operations-push s.history own in let k = ap (λ (y : Counts). y.enqs) T.describes.counts in let parts = count-ops ko.ops in let ops = T.several in
       dite (ℕ_discrete enqs 0) (λ none. let one = (passes_none none).2 in omega arith) (λ more. let l = (passes_some (omega arith)).1 in omega arith)
 
   pub rest_is : e - G.head ≡ G.rest

@@ -1,5 +1,5 @@
 -- The numbers of an empty lane can be coded, and those of a lane after the start of a command.
-use Rattle.std.proofs.Common.{◌≡◌, ◌≢◌, ℕ, suc, ◌+◌, ◌-◌, ◌*◌, ◌^◌, ◌<◌, ◌≤◌, Bool, true, false, cond, List, [], ◌∷◌, length, take, drop, get_or, sym, refl, ap, ◌∙◌, subst, arith, All, eqb, None}
+use Rattle.std.proofs.Common.{◌≡◌, ◌≢◌, ℕ, suc, ◌*◌, ◌^◌, ◌<◌, ◌≤◌, Bool, true, false, List, [], ◌∷◌, length, take, drop, get_or, sym, refl, subst, arith, All, eqb}
 use Rattle.std.proofs.lemmas.List.{length-append, length-take}
 use Rattle.std.proofs.lemmas.List.Elements.{All-filter}
 use Rattle.std.proofs.Math.Pow.{pow_mono}
@@ -20,28 +20,18 @@ use Rattle.word_rows.specs.Order.{order_word_of}
 use Rattle.word_rows.specs.Opening.{opening_of, opening_field}
 use Rattle.word_rows.specs.Sizes.{rows_of}
 use Rattle.word_rows.proofs.OrderLemmas.{enqueue_bits-lt}
-use Rattle.word_rows.proofs.SizeLemmas.{rows_within}
-use Rattle.core_model.specs.declared.point.Point.TheVariants as point
-use Rattle.core_model.specs.declared.point.EnqueuePoint.TheVariants as enq
-use Rattle.core_model.specs.declared.point.FillPoint.TheVariants as fill
-use Rattle.core_model.specs.declared.point.ManyPoint.TheVariants as many
-use Rattle.core_model.specs.Functions.{put}
-use Rattle.core_model.specs.LaneSizes.{LaneSizes, lane_sizes, item}
-use Rattle.core_model.specs.State.{Caller, State, command}
-use Rattle.core_model.specs.Start.{PassesAllowance, IsCommand, has_rows, draft_of, first_point, started, refused, start, opening, batch_point}
-use Rattle.core_model.specs.Fits.{NoticeFits}
-use Rattle.core_model.specs.Coded.{PointFits, IsCoded}
+use Rattle.lane_steps.specs.declared.point.Point.TheVariants as point
+use Rattle.lane_steps.specs.declared.point.Taking.TheVariants as taking
+use Rattle.lane_steps.specs.LaneSizes.{LaneSizes, lane_sizes}
+use Rattle.lane_steps.specs.State.{State}
+use Rattle.lane_steps.specs.Start.{PassesAllowance, IsCommand, draft_of, first_point, begun, start, opening, batch_point}
+use Rattle.lane_steps.specs.Fits.{NoticeFits}
+use Rattle.lane_steps.specs.Coded.{PointFits, IsCoded}
 use Rattle.core_model.specs.Lawful.{Lawful}
-use Rattle.core_model.proofs.Puts.{put_here, put_all}
-use Rattle.core_model.proofs.Preserves.{known}
-use Rattle.core_model.proofs.Steps.{no_operation, started_lawful}
+use Rattle.core_model.proofs.CodedCourses.{search_fits}
+use Rattle.core_model.proofs.Puts.{put_all}
 use Rattle.core_model.proofs.Ends.{idle_groups}
 use Rattle.core_model.proofs.Tables.{opens_as_its_table}
-use Rattle.core_model.specs.Stopper.{chain_rows}
-use Rattle.core_model.specs.Facts.{IsDraft}
-use Rattle.core_model.specs.declared.point.Notice.{Notice}
-use Rattle.core_model.proofs.Counting.{chain_pos}
-use Rattle.core_model.proofs.Rely.{third}
 
 field_opens : (s : Shape) (a : ℕ) (f : AnnField) → MayHold s (AnnWord a f) (opening_field f)
 field_opens s a OldHead = (tt, ((omega arith), (omega arith)))
@@ -66,7 +56,7 @@ word_opens s (AnnHazard c) = (tt, tt)
 word_opens s (AnnWord a f) = field_opens s a f
 
 pub opening_coded : (s : Shape) → IsCoded s (opening (lane_sizes s))
-opening_coded s = record { words = λ l _. subst (MayHold s l) (sym (opens_as_its_table s l)) (word_opens s l); points = λ c. tt; puts = λ c j. omega arith }
+opening_coded s = record { words = λ l _. subst (MayHold s l) (sym (opens_as_its_table s l)) (word_opens s l); points = λ c. tt; taken = λ c j. omega arith; walked = λ c j. omega arith; retired = λ c j. omega arith; puts = λ c j. omega arith }
 
 -- groups with operations are no more than their operations
 le_operations : (gs : List Group) → All (λ g. g.ops ≢ []) gs → length gs ≤ length (operations gs)
@@ -95,67 +85,39 @@ module _ (key : Shape) (s : State) (L : Lawful (lane_sizes key) s) (R : IsCoded 
         by few left = omega arith
 
   module _ (ops : List Op) (is : IsCommand ops) (left : ¬ (PassesAllowance z (s.callers c) (length ops))) (short : length ops ≤ key.batch) (values : (j : ℕ) → get_or (enqueued ops) j 0 < 2 ^ 64) where
-    module _ (rows : has_rows z (s.callers c) ops ≡ true) where
-      abbrev k' : Caller
-      k' = started z (length s.history) c (s.callers c) ops
+    counts_fit : (enqueue_count ops < 2 ^ 16) × (dequeue_count ops < 2 ^ 16) × (excess_of ops < 2 ^ 16)
+    counts_fit = let all = count-ops ops in let x = excess_of-le ops in let most : key.batch ≤ 256 = key.some_batch.1 in let few = short in (omega arith, omega arith, omega arith)
 
-      abbrev s' : State
-      s' = record { memory = s.memory; history = s.history; callers = put s.callers c (started z (length s.history) c (s.callers c) ops) }
+    -- what a batch is to say, before it has rows
+    draft_fits : NoticeFits key (draft_of c (s.callers c) ops)
+    draft_fits = record {
+      old_head = ((omega arith), (omega arith));
+      first = omega arith;
+      last = omega arith;
+      counts = counts_fit;
+      number = ((batch_fits (length ops) is left), at);
+      order0 = order_fits ops 0;
+      order1 = order_fits ops 1;
+      order2 = order_fits ops 2;
+      order3 = order_fits ops 3;
+    }
 
-      pub begun_lawful : Lawful z s'
-      begun_lawful = started_lawful z s L c idle (no_operation z s L c idle) at ops is rows left
+    many_fit : (b : Bool) → PointFits key (batch_point z c ops (draft_of c (s.callers c) ops) b)
+    many_fit true = ((tt, draft_fits), tt)
+    many_fit false = search_fits key L.sizes c at (taking.Batch (draft_of c (s.callers c) ops) (get_or (enqueued ops) 0 0)) (draft_fits, values 0)
 
-      here : (put s.callers c k') c ≡ k'
-      here = put_here s.callers c k'
-
-      counts_fit : (enqueue_count ops < 2 ^ 16) × (dequeue_count ops < 2 ^ 16) × (excess_of ops < 2 ^ 16)
-      counts_fit = let all = count-ops ops in let x = excess_of-le ops in let most : key.batch ≤ 256 = key.some_batch.1 in let few = short in (omega arith, omega arith, omega arith)
-
-      abbrev d : Notice
-      d = draft_of z c (s.callers c) ops
-
-      -- its rows are those of the lane, and its numbers fit
-      draft_fits : IsDraft z c (command (s'.callers c)) d → ((l : ℕ) → l < chain_rows d.counts → d.first + l < rows_of key) → NoticeFits key d
-      draft_fits is_draft free = let some = chain_pos d.counts in let last = is_draft.last in
-          let from : d.first + 0 < rows_of key = free 0 some in
-          let end : d.first + (chain_rows d.counts - 1) < rows_of key = free (chain_rows d.counts - 1) (omega arith) in
-          let row = rows_within key in record {
-            old_head = ((omega arith), (omega arith));
-            first = omega arith;
-            last = omega arith;
-            counts = counts_fit;
-            number = ((batch_fits (length ops) is left), at);
-            order0 = order_fits ops 0;
-            order1 = order_fits ops 1;
-            order2 = order_fits ops 2;
-            order3 = order_fits ops 3;
-          }
-
-      many_fit : (b : Bool) → first_point z c (s.callers c) ops ≡ batch_point ops d b → PointFits key (batch_point ops d b)
-      many_fit true first = let f = known z s' begun_lawful c (point.Many (record { ann = None; notice = d }) many.LoadHead) (ap (λ (k : Caller). k.point) here ∙ first) in ((tt, draft_fits f.call.1.0 (λ l below. ((third f.call).free l below).inside)), tt)
-      many_fit false first = let f = known z s' begun_lawful c (point.Fill d (fill.StoreValue 0 d.first (get_or (enqueued ops) 0 0))) (ap (λ (k : Caller). k.point) here ∙ first) in (draft_fits f.call.1.0 (λ l below. (f.here.0.free l below).inside), values 0)
-
-      point_fits : (xs : List Op) → xs ≡ ops → PointFits key (first_point z c (s.callers c) xs)
-      point_fits [] e = tt
-      point_fits (Enq v ∷ []) e = let f = known z s' begun_lawful c (point.Enqueue (record { row = item z c (s.callers c).taken; value = v }) enq.StoreValue) (ap (λ (k : Caller). k.point) here ∙ ap (first_point z c (s.callers c)) (sym e)) in
-          (record { row = f.call.1.1.0.0.inside; value = subst (λ (ys : List Op). get_or (enqueued ys) 0 0 < 2 ^ 64) (sym e) (values 0) }, tt)
-      point_fits (Deq ∷ []) e = tt
-      point_fits (op ∷ op' ∷ xs) e = subst (λ (ys : List Op). PointFits key (batch_point ys (draft_of z c (s.callers c) ys) (eqb (enqueue_count ys) 0))) (sym e)
-          (many_fit (eqb (enqueue_count ops) 0) (ap (first_point z c (s.callers c)) (sym e) ∙ ap (λ (ys : List Op). batch_point ys (draft_of z c (s.callers c) ys) (eqb (enqueue_count ys) 0)) e))
-
-      pub begun_coded : IsCoded key record { memory = s.memory; history = s.history; callers = put s.callers c (started z (length s.history) c (s.callers c) ops) }
-      begun_coded = record {
-        words = R.words;
-        points = put_all s.callers c k' (λ d k. PointFits key k.point) (point_fits ops refl) (λ d _. R.points d);
-        puts = put_all s.callers c k' (λ d k. (j : ℕ) → get_or (enqueued k.ops) j 0 < 2 ^ 64) values (λ d _. R.puts d);
-      }
+    point_fits : (xs : List Op) → xs ≡ ops → PointFits key (first_point z c (s.callers c) xs)
+    point_fits [] e = tt
+    point_fits (Enq v ∷ []) e = search_fits key L.sizes c at (taking.Enqueue v) (subst (λ (ys : List Op). get_or (enqueued ys) 0 0 < 2 ^ 64) (sym e) (values 0))
+    point_fits (Deq ∷ []) e = tt
+    point_fits (op ∷ op' ∷ xs) e = subst (λ (ys : List Op). PointFits key (batch_point z c ys (draft_of c (s.callers c) ys) (eqb (enqueue_count ys) 0))) (sym e) (many_fit (eqb (enqueue_count ops) 0))
 
     pub start_coded : IsCoded key (start (lane_sizes key) s c ops)
-    start_coded = by (has_rows z (s.callers c) ops) refl where
-      by : (b : Bool) → has_rows z (s.callers c) ops ≡ b → IsCoded key record { memory = s.memory; history = s.history; callers = put s.callers c (cond b (started z (length s.history) c (s.callers c) ops) (refused z (length s.history) c (s.callers c))) }
-      by true rows = begun_coded rows
-      by false rows = record {
-        words = R.words;
-        points = put_all s.callers c (refused z (length s.history) c (s.callers c)) (λ d k. PointFits key k.point) (R.points c) (λ d _. R.points d);
-        puts = put_all s.callers c (refused z (length s.history) c (s.callers c)) (λ d k. (j : ℕ) → get_or (enqueued k.ops) j 0 < 2 ^ 64) (R.puts c) (λ d _. R.puts d);
-      }
+    start_coded = let k = begun z (length s.history) c (s.callers c) ops in record {
+      words = R.words;
+      points = put_all s.callers c k (λ d y. PointFits key y.point) (point_fits ops refl) (λ d _. R.points d);
+      taken = put_all s.callers c k (λ d y. (j : ℕ) → get_or y.rows j 0 < rows_of key) (λ j. omega arith) (λ d _. R.taken d);
+      walked = put_all s.callers c k (λ d y. (j : ℕ) → get_or y.walked j 0 < rows_of key) (λ j. omega arith) (λ d _. R.walked d);
+      retired = put_all s.callers c k (λ d y. (j : ℕ) → get_or y.retired j 0 < rows_of key) (R.retired c) (λ d _. R.retired d);
+      puts = put_all s.callers c k (λ d y. (j : ℕ) → get_or (enqueued y.ops) j 0 < 2 ^ 64) values (λ d _. R.puts d);
+    }

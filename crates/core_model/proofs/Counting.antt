@@ -4,7 +4,7 @@ use Rattle.std.proofs.lemmas.Bool.{lt-ltb, ltb-true, ltb-false, eqb-true, and_fr
 use mathlib.Core.Logic.{dite}
 use native.Mathlib.Decide.{ℕ_discrete, dec_le}
 use Rattle.excess_count.specs.declared.counts.Counts.{Counts}
-use Rattle.core_model.specs.Stopper.{chain_rows, is_stopped, stoppers, linked_rows}
+use Rattle.lane_steps.specs.Stopper.{chain_rows, is_stopped, stoppers, linked_rows}
 
 -- a row of an enqueue is one of the chain
 pub enqs_chain : (k : Counts) (l : ℕ) → l < k.enqs → l < chain_rows k

@@ -1,33 +1,36 @@
 -- A help of dequeues alone that finds enough values before the tail decides the batch: the group of its owner joins the
 -- history, and no row is linked.
-use Rattle.std.proofs.Common.{◌≡◌, ◌≢◌, inr, ℕ, suc, ◌+◌, ◌<◌, ◌≤◌, [], ◌∷◌, ◌++◌, take, sym, refl, ap, ◌∙◌, subst, arith, le_refl, ◌-◌, List, length, drop, Option, Some, None, inl}
+use Rattle.std.proofs.Common.{◌≡◌, ◌≢◌, inr, ℕ, suc, ◌+◌, ◌<◌, ◌≤◌, [], ◌∷◌, ◌++◌, take, sym, refl, ap, ◌∙◌, subst, arith, le_refl, ◌-◌, List, length, drop, Option, Some, None, inl, ltb, Bool, true, false}
 use Rattle.std.proofs.lemmas.List.{append-nil}
 use Rattle.bq_model.specs.History.{last_queue}
 use Rattle.excess_count.specs.Got.{values_from}
 use Rattle.word_rows.specs.declared.place.Place.{Place}
 use Rattle.word_rows.specs.declared.location.Location.TheVariants.{AnnWord}
 use Rattle.word_rows.specs.declared.content.Content.TheVariants.{OfOldTail}
-use Rattle.core_model.specs.declared.point.Help.{Help}
-use Rattle.core_model.specs.declared.point.Point.TheVariants as point
-use Rattle.core_model.specs.declared.point.HelpPoint.TheVariants as help
-use Rattle.core_model.specs.Functions.{put, run}
-use Rattle.core_model.specs.LaneSizes.{LaneSizes}
+use Rattle.lane_steps.specs.declared.point.Help.{Help}
+use Rattle.lane_steps.specs.declared.point.Point.TheVariants as point
+use Rattle.lane_steps.specs.declared.point.HelpPoint.TheVariants as help
+use Rattle.lane_steps.specs.Functions.{put, run, upto, Distinct}
+use Rattle.lane_steps.specs.LaneSizes.{LaneSizes}
 use Rattle.excess_count.specs.Counts.{successes_of}
-use Rattle.core_model.specs.Batches.{owner_of}
-use Rattle.core_model.specs.State.{State, own_group, Memory, Caller}
-use Rattle.core_model.specs.Fact.{reads, linked, tail_seen, enough}
-use Rattle.core_model.specs.Help.{at_old_tail}
-use Rattle.core_model.specs.Step.{step_with, step_at}
-use Rattle.core_model.specs.Facts.{Linearized, Holds}
+use Rattle.lane_steps.specs.Batches.{owner_of}
+use Rattle.lane_steps.specs.State.{State, own_group, Memory, Caller}
+use Rattle.lane_steps.specs.Fact.{reads, linked, tail_seen, enough}
+use Rattle.lane_steps.specs.Help.{at_old_tail}
+use Rattle.lane_steps.specs.Step.{rows_left, step_with, step_at}
+use Rattle.word_rows.specs.declared.marks.Marks.{Marks}
+use Rattle.core_model.specs.Facts.{Linearized, Effect, Holds}
+use Rattle.core_model.specs.Rows.{Takes, Debts, IsLoose, OwnRows}
 use Rattle.core_model.specs.Ghost.{unused, decided, On, Stage, waiting, Ghost, World, at}
 use Rattle.core_model.specs.Lawful.{Told, Lawful, InOrder, Bound, Standing, Announced, Headed, Pending}
 use Rattle.core_model.proofs.Puts.{put_here, put_else}
 use Rattle.core_model.proofs.Groups.{length-operations-push}
 use Rattle.core_model.proofs.Runs.{take-run, length-run, drop-run}
-use Rattle.core_model.proofs.Rely.{fourth, world, Rely, some_none, waits_decides, one_some}
+use Rattle.core_model.proofs.Rely.{fourth, world, Rely, rows_same, some_none, true_false, waits_decides, one_some}
+use Rattle.core_model.proofs.Owing.{pass_owed, read_owed, debts_owed}
 use Rattle.core_model.proofs.Preserves.{known, stutters, point_changes}
 use Rattle.excess_count.specs.declared.counts.Counts.{Counts}
-use Rattle.core_model.specs.Stopper.{linked_rows, passes}
+use Rattle.lane_steps.specs.Stopper.{chain_rows, linked_rows, passes}
 use Rattle.core_model.proofs.Decisions as decision
 use Rattle.bq_model.specs.declared.group.Group.{Group}
 use Rattle.bq_model.proofs.Histories.{last_queue-push}
@@ -78,7 +81,7 @@ module _ (z : LaneSizes) (s : State) (L : Lawful z s) (c : ℕ) (h : Help) (p : 
   no_enqs = ap (λ (k : Counts). k.enqs) counts_read ∙ plenty.0
 
   -- the announcement isn't decided, for then a stopper would be linked behind that tail or before it
-  waits : G.stage a ≡ waiting
+  pub waits : L.ghost.stage h.ann ≡ waiting
   waits = by (G.stage a) refl where
     by : (x : Stage) → G.stage a ≡ x → G.stage a ≡ waiting
     by unused u = absurd (reading.installed u)
@@ -93,7 +96,7 @@ module _ (z : LaneSizes) (s : State) (L : Lawful z s) (c : ℕ) (h : Help) (p : 
   bare : G.shown ≡ 0
   bare = decision.bare z s L h.ann on.position 0 waits
 
-  P : Pending z s.memory.link s.memory.value G.spot G.chain (G.linearized o) (s.memory.notice a) o ko
+  P : Pending z s.memory.link s.memory.value s.memory.mark G.spot G.chain (G.linearized o) (s.memory.notice a) o ko
   P = decision.waiting_rows z s L h.ann on.position 0 waits
 
   T : Told z.home s.memory.value G.path (G.stage a) (s.memory.notice a) o ko
@@ -106,7 +109,7 @@ module _ (z : LaneSizes) (s : State) (L : Lawful z s) (c : ℕ) (h : Help) (p : 
   excess_is = all_excess ko.ops no_enqueue ∙ sym (ap (λ (k : Counts). k.deqs) T.describes.counts)
 
   some : 0 < many
-  some = let all = count-ops ko.ops in let e = no_enqueue in let d = ap (λ (k : Counts). k.deqs) T.describes.counts in let ops = T.some in omega arith
+  some = let all = count-ops ko.ops in let e = no_enqueue in let d = ap (λ (k : Counts). k.deqs) T.describes.counts in let ops = T.several in omega arith
 
   -- so many rows and more lie behind the dummy up to that tail
   far : G.head + many ≤ i
@@ -138,7 +141,7 @@ module _ (z : LaneSizes) (s : State) (L : Lawful z s) (c : ℕ) (h : Help) (p : 
 
   -- the world after the step: no row is linked
   abbrev W : World
-  W = decision.decided_world z s L h.ann on.position 0 waits L.ghost.path L.ghost.chained L.ghost.spot L.ghost.rest many (L.ghost.rest - many) L.ghost.cause s.memory.link old'
+  W = decision.decided_world z s L h.ann on.position 0 waits L.ghost.path L.ghost.chained L.ghost.spot L.ghost.rest many many 0 (L.ghost.rest - many) L.ghost.cause s.memory.link old'
 
   place_is : p ≡ at z.first G.path i
   place_is = λ y. record { row = sym on.on.row y; count = on.count y }
@@ -151,11 +154,13 @@ module _ (z : LaneSizes) (s : State) (L : Lawful z s) (c : ℕ) (h : Help) (p : 
     path_same = λ _ _. refl;
     chained_same = λ _ _. refl;
     spot_own = λ _ u _. u;
-    on_same = λ i r on. (on.spot, on.link, refl);
+    rows = rows_same (world s G) W (λ _ _ at. at) refl;
+    on_same = λ i r on _. (on.link, refl);
     link_own = λ _ _ _. refl;
     value_own = λ _ _ _. refl;
+    mark_own = λ _ _ _. refl;
     value_path = λ _ _ _. refl;
-    anns = decision.anns_decide z s L h.ann on.position 0 waits L.ghost.path L.ghost.chained L.ghost.spot L.ghost.rest many (L.ghost.rest - many) L.ghost.cause s.memory.link old' old_else (inr refl);
+    anns = decision.anns_decide z s L h.ann on.position 0 waits L.ghost.path L.ghost.chained L.ghost.spot L.ghost.rest many many 0 (L.ghost.rest - many) L.ghost.cause s.memory.link old' old_else (inr refl);
     holds = λ _ _ e. inl e;
     more = (own ∷ [], refl);
   }
@@ -203,12 +208,12 @@ module _ (z : LaneSizes) (s : State) (L : Lawful z s) (c : ℕ) (h : Help) (p : 
   memory' = record s.memory { old_tail = old' }
 
   announced' : Announced z memory' W.ghost
-  announced' = decision.stages_decide z s L h.ann on.position 0 waits L.ghost.path L.ghost.chained L.ghost.spot L.ghost.rest many (L.ghost.rest - many) L.ghost.cause s.memory.link old' old_else (λ _ _. refl) bound_here (λ x j d. L.announced.bound x j d) standing_here
+  announced' = decision.stages_decide z s L h.ann on.position 0 waits L.ghost.path L.ghost.chained L.ghost.spot L.ghost.rest many many 0 (L.ghost.rest - many) L.ghost.cause s.memory.link old' old_else (λ _ _. refl) bound_here (λ x j d. L.announced.bound x j d) standing_here
       (λ q is. one_some (sym is ∙ put_here s.memory.old_tail a (Some p)) ∙ place_is) (λ none. absurd (some_none (sym (put_here s.memory.old_tail a (Some p)) ∙ none)))
       (λ below by. let x = L.announced.lags below by in absurd (waits_decides waits (ap G.stage (one_some (sym at_head ∙ x.2)) ∙ x.1)))
 
   -- the owner's batch stands in the history, on a queue that may be longer than its old tail says
-  linearized_here : Linearized z W a i ko.started_at own
+  linearized_here : Linearized z W o a i ko.started_at own
   linearized_here = record {
     pre = s.history;
     post = [];
@@ -221,7 +226,10 @@ module _ (z : LaneSizes) (s : State) (L : Lawful z s) (c : ℕ) (h : Help) (p : 
     no_shorter = let l = length_queue in let b = inside in omega arith;
     length_queue = inr (let ex = excess_is in let f = far in omega arith);
     values = subst (λ (n : ℕ). take n (values_from (last_queue s.history) ko.ops) ≡ run value_at (suc G.head) n) (sym all_got) (ap (take many) all_values ∙ take-run value_at (suc G.head) G.rest many within);
-    rows = λ x le. on_list x (let g = all_got in omega arith);
+    inside = let all = passes_all in let w = within in omega arith;
+    rows = λ x le _. on_list x (let g = all_got in omega arith);
+    to_pass = λ x below. pass_owed z s L bare o many 0 (G.head + x) (omega arith) (let all = passes_all in omega arith);
+    to_read = λ x late le. read_owed z s L bare o many 0 (G.head + x) (omega arith) (let g = all_got in omega arith);
   } where
     on_list : (x : ℕ) → x ≤ many → On W (G.head + x) (G.path (G.head + x))
     on_list x le = let w = within in record {
@@ -241,9 +249,34 @@ module _ (z : LaneSizes) (s : State) (L : Lawful z s) (c : ℕ) (h : Help) (p : 
     links = L.list.links;
   }
 
+  -- its stopper stays unlinked, and its owner has the marks of the rows that it passes and reads to set
+  effect : Takes z (world s G) o ko.rows × Debts z (world s G) o [] [] × Distinct ko.rows → Effect z W o a i ko.started_at own ko.rows
+  unfolding linearized_here
+  effect f = record {
+    stands = put_here G.linearized o true;
+    batch = linearized_here;
+    taken = subst (λ (b : Bool). Takes z W o (rows_left b ko.rows)) (sym none_linked) f.0;
+    loose = subst (λ (b : Bool). OwnRows z W o (rows_left b ko.rows)) (sym none_linked) (record { each = λ r is. loose r (P.taken r is); distinct = f.2 });
+    debts = subst (λ (y : ℕ × ℕ). Debts z W o (upto (z.first + G.head) y.0) (upto (z.first + suc G.head) y.1)) (λ k. (passed k, sym all_got k)) (debts_owed z s L bare o many 0 memory' (s.history ++ own ∷ []) W.ghost (le_refl _) f.1);
+  } where
+    none_linked : ltb 0 (linked_rows (s.memory.notice a).counts (i - G.head)) ≡ false
+    none_linked = ap (ltb 0) no_stopper
+
+    passed : many + 0 ≡ passes (s.memory.notice a).counts (i - G.head)
+    passed = let all = passes_all in omega arith
+
+    loose : (r : ℕ) → (j : ℕ) × (j < chain_rows (s.memory.notice a).counts) × (G.chain j ≡ r) → IsLoose z W o r
+    loose r y = subst (IsLoose z W o) y.2 (record {
+      at_home = P.homes y.0 y.1;
+      inside = P.inside y.0 y.1;
+      unlinked = P.unlinked y.0 y.1;
+      kept = ap (λ (x : Marks). x.free) (P.marks y.0 y.1);
+      unmarked = λ both. true_false (sym (ap (λ (x : Marks). x.passed) both) ∙ ap (λ (x : Marks). x.passed) (P.marks y.0 y.1));
+    })
+
   pub decided_lawful : Lawful z record { memory = record s.memory { old_tail = put s.memory.old_tail h.ann (Some p) }; history = s.history ++ own_group (owner_of z h.ann) (s.callers (owner_of z h.ann)) ∷ []; callers = s.callers }
-  decided_lawful = decision.decision z s L h.ann on.position 0 waits L.ghost.path L.ghost.chained L.ghost.spot L.ghost.rest many (L.ghost.rest - many) L.ghost.cause s.memory.link old' old_else (λ _. ⊥) rely (λ _ x. absurd x) linearized_here queue' list' announced'
-      (none_enqueued ko.ops no_enqueue ∙ ap (run value_at (suc i)) (sym no_enqs))
+  decided_lawful = decision.decision z s L h.ann on.position 0 waits L.ghost.path L.ghost.chained L.ghost.spot L.ghost.rest many many 0 (L.ghost.rest - many) L.ghost.cause s.memory.link old' old_else (λ _. ⊥) rely (λ _ x. absurd x)
+      (omega arith) (λ none. absurd (omega arith)) (λ _ _ at. at) (λ _ _ at. inl at) effect queue' list' announced' (none_enqueued ko.ops no_enqueue ∙ ap (run value_at (suc i)) (sym no_enqs))
 
 module _ (z : LaneSizes) (s : State) (L : Lawful z s) (c : ℕ) where
   tail_decided : (h : Help) (p : Place) (x : Option Place) → s.memory.old_tail h.ann ≡ x → (s.callers c).point ≡ point.Help h (help.Decide p) → Lawful z (step_with z s c (point.Help h (help.Decide p)) (OfOldTail x))

@@ -1,36 +1,40 @@
 -- An announcement is decided, by a link or without one: the command of its owner takes effect, whoever makes the step.
-use Rattle.std.proofs.Common.{◌≡◌, ◌≢◌, ◌⊎◌, inl, inr, ℕ, suc, ◌+◌, ◌<◌, ◌≤◌, Bool, true, false, cond, [], ◌∷◌, ◌++◌, sym, refl, ap, ◌∙◌, subst, arith, Option, Some, None, length}
+use Rattle.std.proofs.Common.{◌≡◌, ◌≢◌, ◌⊎◌, inl, inr, ⊎_elim, ℕ, suc, ◌+◌, ◌-◌, ◌<◌, ◌≤◌, Bool, true, false, cond, [], ◌∷◌, ◌++◌, sym, refl, ap, ◌∙◌, subst, arith, le_refl, Option, Some, None, length}
 use mathlib.Core.Logic.{dite}
 use native.Mathlib.Decide.{ℕ_discrete}
 use Rattle.bq_model.specs.History.{last_queue}
 use Rattle.bq_model.specs.Values.{enqueued}
 use Rattle.word_rows.specs.declared.place.Place.{Place}
 use Rattle.word_rows.specs.declared.link_word.LinkWord.{LinkWord}
-use Rattle.core_model.specs.declared.point.HelpPoint.{HelpPoint}
-use Rattle.core_model.specs.declared.point.HelpPoint.TheVariants as help
-use Rattle.core_model.specs.declared.point.Back.{Back}
-use Rattle.core_model.specs.declared.point.Back.TheVariants as back
-use Rattle.core_model.specs.declared.point.Point.{Point}
-use Rattle.core_model.specs.declared.point.Point.TheVariants as point
-use Rattle.core_model.specs.Functions.{put, run}
-use Rattle.core_model.specs.LaneSizes.{LaneSizes}
-use Rattle.core_model.specs.Batches.{owner_of}
-use Rattle.core_model.specs.State.{command, State, own_group, Memory, Caller}
-use Rattle.core_model.specs.Fact.{Fact, reads, takes_effect, since, kept, helps}
-use Rattle.core_model.specs.Help.{back_facts}
-use Rattle.core_model.specs.Facts.{Linearized, Holds, Each, AtPoint, Knows, NotToCome, IsOwn}
-use Rattle.core_model.specs.Ghost.{unused, decided, positions, Stage, waiting, Ghost, World, at}
+use Rattle.lane_steps.specs.declared.point.Back.{Back}
+use Rattle.lane_steps.specs.declared.point.Back.TheVariants as back
+use Rattle.lane_steps.specs.declared.point.Point.{Point}
+use Rattle.lane_steps.specs.declared.point.Point.TheVariants as point
+use Rattle.lane_steps.specs.Functions.{put, run, Distinct}
+use Rattle.lane_steps.specs.LaneSizes.{LaneSizes}
+use Rattle.lane_steps.specs.Batches.{owner_of}
+use Rattle.lane_steps.specs.State.{command, State, own_group, Memory, Caller, both_marks}
+use Rattle.lane_steps.specs.Fact.{Fact, reads, takes_effect, since, kept, helps, hazard_is, row_hazard_is}
+use Rattle.lane_steps.specs.Help.{back_facts, loaded}
+use Rattle.lane_steps.specs.Stopper.{passes}
+use Rattle.lane_steps.specs.declared.point.Guarding.TheVariants as guard
+use Rattle.lane_steps.specs.declared.point.GuardPoint.TheVariants.{StoreHazard, LoadAgain}
+use Rattle.core_model.specs.Facts.{Effect, Holds, Each, AtPoint, Knows, IsOwn}
+use Rattle.core_model.specs.Rows.{Takes, Debts, Loose}
+use Rattle.core_model.specs.Ghost.{unused, decided, positions, Stage, waiting, Ghost, World, at, is_paid}
 use Rattle.core_model.specs.Lawful.{HelpsOwn, Told, OwnGroups, Lawful, shown_queue, InOrder, Bound, Standing, Announced, Pending}
 use Rattle.core_model.proofs.Puts.{put_here, put_else, put_all}
 use Rattle.core_model.proofs.Groups.{mine-push_other}
-use Rattle.core_model.specs.Help as helping
-use Rattle.core_model.proofs.Stable.{shared_stable, knows_stable, all_shared_stable, unused_stable}
+use Rattle.lane_steps.specs.Help as helping
+use Rattle.core_model.proofs.Stable.{shared_stable, all_shared_stable}
+use Rattle.core_model.proofs.OwnStable.{knows_stable}
+use Rattle.core_model.proofs.RowsStable.{retires_stable}
+use Rattle.core_model.proofs.Owing.{owed_reader, owed_passer, marked_owed, near_owed, no_debts_owed}
 use Rattle.core_model.proofs.SharedFacts.{Shared, helping_shared}
-use Rattle.core_model.proofs.Rely.{world, unused_waits, unused_decides, one_position, Rely, waits_decides, one_some, some_none, AnnRely}
+use Rattle.core_model.proofs.Rely.{world, unused_waits, unused_decides, one_position, Rely, waits_decides, one_some, some_none, AnnRely, Near, NoDebts}
 use Rattle.core_model.proofs.Joins.{joins_proper, joins_mine}
 use Rattle.bq_model.specs.declared.group.Group.{Group}
-use Rattle.core_model.specs.declared.point.Help.{Help}
-use Rattle.core_model.proofs.Preserves.{guards_stable}
+use Rattle.core_model.proofs.Callers.{guards_stable, guards_row_stable}
 
 module _ (z : LaneSizes) (s : State) (L : Lawful z s) (a e : ℕ) where
   abbrev o : ℕ
@@ -51,11 +55,14 @@ module _ (z : LaneSizes) (s : State) (L : Lawful z s) (a e : ℕ) where
 
   -- In the new world W the announcement is decided behind the place e, and its batch stands in the history.
   module _ (Touch : ℕ → Type 0) (W : World) (rely : Rely z Touch (world s L.ghost) W) (at_head : L.ghost.ann ≡ Some a) (waits : L.ghost.stage a ≡ waiting)
-      (touches : (r : ℕ) → Touch r → (z.home r ≡ owner_of z a) × NotToCome z (owner_of z a) (s.callers (owner_of z a)).taken (s.callers (owner_of z a)).stopped r)
+      (touches : (r : ℕ) → Touch r → (z.home r ≡ owner_of z a) × (s.memory.mark r ≢ both_marks))
       (linearized : (d : ℕ) → W.ghost.linearized d ≡ put L.ghost.linearized (owner_of z a) true d) (alone : (x : ℕ) → W.ghost.ann ≡ Some x → x ≡ a) (decided_here : W.ghost.stage a ≡ decided e)
       (hazard : (d : ℕ) → W.memory.ann_hazard d ≡ s.memory.ann_hazard d) (held : (d : ℕ) → W.ghost.held d ≡ L.ghost.held d)
+      (row_hazard : (d : ℕ) → W.memory.node_hazard d ≡ s.memory.node_hazard d) (row_held : (d : ℕ) → W.ghost.row_held d ≡ L.ghost.row_held d)
       (others : (x : ℕ) → x ≢ a → (W.ghost.stage x ≡ L.ghost.stage x) × (W.memory.notice x ≡ s.memory.notice x) × (W.memory.old_tail x ≡ s.memory.old_tail x))
-      (here : Linearized z W a e (s.callers (owner_of z a)).started_at (own_group (owner_of z a) (s.callers (owner_of z a)))) where
+      (marks : (r : ℕ) → W.memory.mark r ≡ s.memory.mark r) (near : Near (world s L.ghost) W (owner_of z a)) (no_debts : (d : ℕ) → d ≢ owner_of z a → NoDebts (world s L.ghost) W d)
+      (effect : Takes z (world s L.ghost) (owner_of z a) (s.callers (owner_of z a)).rows × Debts z (world s L.ghost) (owner_of z a) [] [] × Distinct (s.callers (owner_of z a)).rows
+      → Effect z W (owner_of z a) a e (s.callers (owner_of z a)).started_at (own_group (owner_of z a) (s.callers (owner_of z a))) (s.callers (owner_of z a)).rows) where
     abbrev G : Ghost
     G = L.ghost
 
@@ -63,12 +70,13 @@ module _ (z : LaneSizes) (s : State) (L : Lawful z s) (a e : ℕ) where
     sh : (f : Fact) → Shared (world s L.ghost) W (owner_of z a) f → Holds z (world s G) o f → Holds z W o f
     sh f shared x = shared_stable z Touch (world s G) W rely o f shared x
 
-    own_takes_effect : (x : ℕ) → Holds z (world s G) o (takes_effect x ko.started_at own) → Holds z W o (takes_effect x ko.started_at own)
-    own_takes_effect x f = subst (λ (y : ℕ). Holds z W o (takes_effect y ko.started_at own)) (f.only a at_head refl)
+    own_takes_effect : (x : ℕ) → Holds z (world s G) o (takes_effect x ko.rows ko.started_at own) → Holds z W o (takes_effect x ko.rows ko.started_at own)
+    own_takes_effect x f = let same = f.only a at_head refl in subst (λ (y : ℕ). Holds z W o (takes_effect y ko.rows ko.started_at own)) same
         (record {
           installed = λ u. unused_decides u decided_here;
           owner = refl;
-          stands = λ i d. (linearized o ∙ put_here G.linearized o true, subst (λ (y : ℕ). Linearized z W a y ko.started_at own) (one_position decided_here d) here);
+          stands = λ i d. subst (λ (y : ℕ). Effect z W o a y ko.started_at own ko.rows) (one_position decided_here d) (effect (f.takes (sym (ap G.stage same) ∙ waits)));
+          takes = λ w. absurd (waits_decides w decided_here);
           only = λ y at_y _. alone y at_y;
         })
 
@@ -79,25 +87,25 @@ module _ (z : LaneSizes) (s : State) (L : Lawful z s) (a e : ℕ) where
     back_own x (back.Batch d) bad f = absurd bad
     back_own x (back.Many d) bad f = absurd bad
 
-    read_before : (x : Help) (p : HelpPoint) → Holds z (world s G) o (helping.known_by x p) → Holds z W o (helping.known_by x p)
-    read_before x help.StoreHazard f = sh (helps x) tt f
-    read_before x help.LoadHead f = sh (helps x) tt f
-    read_before x help.LoadOldHead f = sh (reads 0 x) (held o) f
-    read_before x help.LoadFirst f = sh (reads 1 x) (held o) f
-    read_before x help.LoadLast f = sh (reads 2 x) (held o) f
-    read_before x help.LoadCounts f = sh (reads 3 x) (held o) f
-    read_before x _ f = sh (reads 4 x) (held o) f
-
     helps_stable : (t : Point) → HelpsOwn t → AtPoint z (world s G) o ko t → AtPoint z W o ko t
     helps_stable (point.Help x p) own' f = record {
-      call = (read_before x p f.call.0, back_own x.ann x.back own' f.call.1);
-      here = all_shared_stable z Touch (world s G) W rely o (helping.knows x p) (helping_shared (world s G) W o (hazard o) x p) f.here;
+      call = (sh (reads (loaded p) x) (held o) f.call.0, back_own x.ann x.back own' f.call.1);
+      here = all_shared_stable z Touch (world s G) W rely o (helping.knows x p) (helping_shared (world s G) W o (row_held o) x p) f.here;
     }
+    helps_stable (point.Guard (guard.Help x) StoreHazard) own' f = record { call = (sh (helps x) tt f.call.0, back_own x.ann x.back own' f.call.1); here = tt }
+    helps_stable (point.Guard (guard.Help x) LoadAgain) own' f = record { call = (sh (helps x) tt f.call.0, back_own x.ann x.back own' f.call.1); here = (sh (hazard_is x.ann) (hazard o) f.here.0, tt) }
+    helps_stable (point.Guard (guard.HelpTail x q) StoreHazard) own' f = record { call = (sh (reads 4 x) (held o) f.call.0, back_own x.ann x.back own' f.call.1); here = tt }
+    helps_stable (point.Guard (guard.HelpTail x q) LoadAgain) own' f = record { call = (sh (reads 4 x) (held o) f.call.0, back_own x.ann x.back own' f.call.1); here = (sh (row_hazard_is q.row) (row_hazard o) f.here.0, tt) }
     helps_stable _ bad f = absurd bad
+
+    -- no row that was touched is retired
+    not_loose : (r : ℕ) → Loose z (world s G) o r ⊎ Loose z W o r → ¬ (Touch r)
+    not_loose r (inl y) t = (touches r t).1 y.marks
+    not_loose r (inr y) t = (touches r t).1 (sym (marks r) ∙ y.marks)
 
     owner_knows : HelpsOwn ko.point → Knows z W o ko
     owner_knows helping_own = let f = (L.callers o).knows in record {
-      unused = unused_stable z Touch (world s G) W rely o ko.taken ko.stopped (λ r t. (touches r t).1) f.unused;
+      retired = retires_stable z Touch (world s G) W rely o near not_loose ko.retired f.retired;
       started = sh (since ko.started_at) tt f.started;
       last = sh (kept ko) tt f.last;
       at_point = helps_stable ko.point helping_own f.at_point;
@@ -106,7 +114,7 @@ module _ (z : LaneSizes) (s : State) (L : Lawful z s) (a e : ℕ) where
     pub all_know : HelpsOwn (s.callers (owner_of z a)).point → (d : ℕ) → Knows z W d (s.callers d)
     all_know helping_own d = dite (ℕ_discrete d o) (λ same. subst (λ (y : ℕ). Knows z W y (s.callers y)) (sym same) (owner_knows helping_own))
         (λ apart. knows_stable z Touch (world s G) W rely d (λ r home t. apart (sym home ∙ (touches r t).0)) (linearized d ∙ put_else G.linearized o true d apart)
-        (λ x _ u. let w = others x (λ same. unused_waits u (ap G.stage same ∙ waits)) in (w.0 ∙ u, w.1, w.2)) (hazard d) (held d) (s.callers d) (L.callers d).knows)
+        (λ x _ u. let w = others x (λ same. unused_waits u (ap G.stage same ∙ waits)) in (w.0 ∙ u, w.1, w.2)) (no_debts d apart) (hazard d) (held d) (row_hazard d) (row_held d) (s.callers d) (L.callers d).knows)
 
 -- The announcement in HEAD waits, and is decided behind the place i, with n rows linked.
 module _ (z : LaneSizes) (s : State) (L : Lawful z s) (a i n : ℕ) (waits : L.ghost.stage a ≡ waiting) where
@@ -128,7 +136,7 @@ module _ (z : LaneSizes) (s : State) (L : Lawful z s) (a i n : ℕ) (waits : L.g
   pub bare : L.ghost.shown ≡ 0
   bare = (L.announced.waits a waits).1
 
-  pub waiting_rows : Pending z s.memory.link s.memory.value L.ghost.spot L.ghost.chain (L.ghost.linearized (owner_of z a)) (s.memory.notice a) (owner_of z a) (s.callers (owner_of z a))
+  pub waiting_rows : Pending z s.memory.link s.memory.value s.memory.mark L.ghost.spot L.ghost.chain (L.ghost.linearized (owner_of z a)) (s.memory.notice a) (owner_of z a) (s.callers (owner_of z a))
   waiting_rows = L.pending a waits
 
   pub told_now : Told z.home s.memory.value L.ghost.path (L.ghost.stage a) (s.memory.notice a) (owner_of z a) (s.callers (owner_of z a))
@@ -145,7 +153,7 @@ module _ (z : LaneSizes) (s : State) (L : Lawful z s) (a i n : ℕ) (waits : L.g
   waiting_queue = let none = bare in let fits = L.list.head.fits in L.queue ∙ (λ k. run (λ j. s.memory.value (g.path j)) (suc ((let f : g.head + g.shown ≡ g.head = omega arith in f) k)) ((let f : g.queued ≡ g.rest = omega arith in f) k))
 
   some_ops : kept_by.ops ≢ []
-  some_ops none = let more = told_now.some in let k = ap length none in absurd (omega arith)
+  some_ops none = let more = told_now.several in let k = ap length none in absurd (omega arith)
 
   abbrev stage' : ℕ → Stage
   stage' = put L.ghost.stage a (decided i)
@@ -176,9 +184,9 @@ module _ (z : LaneSizes) (s : State) (L : Lawful z s) (a i n : ℕ) (waits : L.g
   which x j d = dite (ℕ_discrete x a) (λ same. inl (same, one_position d (ap stage' same ∙ here_decided))) (λ apart. inr (apart, sym (stage_else x apart) ∙ d))
 
   -- the new list, the new links and what OldTail has then
-  module _ (path' : ℕ → ℕ) (chained' : ℕ → Bool) (spot' : ℕ → Option ℕ) (rest' shown' queued' : ℕ) (cause' : ℕ → ℕ) (link' : ℕ → LinkWord) (old' : ℕ → Option Place) where
+  module _ (path' : ℕ → ℕ) (chained' : ℕ → Bool) (spot' : ℕ → Option ℕ) (rest' shown' got stops queued' : ℕ) (cause' : ℕ → ℕ) (link' : ℕ → LinkWord) (old' : ℕ → Option Place) where
     abbrev pub decided_ghost : Ghost
-    decided_ghost = record L.ghost { path = path'; chained = chained'; spot = spot'; rest = rest'; shown = shown'; queued = queued'; linearized = put L.ghost.linearized (owner_of z a) true; stage = put L.ghost.stage a (decided i); span = put L.ghost.span a n; cause = cause' }
+    decided_ghost = record L.ghost { path = path'; chained = chained'; spot = spot'; rest = rest'; shown = shown'; queued = queued'; linearized = put L.ghost.linearized (owner_of z a) true; stage = put L.ghost.stage a (decided i); span = put L.ghost.span a n; cause = cause'; reader = owed_reader L.ghost.reader L.ghost.head (owner_of z a) got stops; passer = owed_passer L.ghost.passer L.ghost.head (owner_of z a) got stops }
 
     abbrev pub decided_memory : Memory
     decided_memory = record s.memory { link = link'; old_tail = old' }
@@ -226,12 +234,18 @@ module _ (z : LaneSizes) (s : State) (L : Lawful z s) (a i n : ℕ) (waits : L.g
         unknown = λ x w. absurd (none_waits x w);
         recorded = λ x j q d is. recorded_by x j q (which x j d) is;
         unrecorded = λ x j d none. unrecorded_by x j (which x j d) none;
+        left = λ x j h d off old. left_by x j h (which x j d) off old;
         lags = λ below by. let l = lags below by in (a, here_decided ∙ ap decided (sym l.0), at_head, subst (λ (y : ℕ). g.head + rest' ≤ g.tail + y) (sym span_here) l.1);
       } where
         bound_by : (x j : ℕ) → Decides x j → Bound z.first path' chained' cause' (g.head + rest') g.tail (s.memory.notice x) x j (span' x)
         bound_by x j (inl (same, here)) = subst (λ (y : ℕ × ℕ). Bound z.first path' chained' cause' (g.head + rest') g.tail (s.memory.notice y.0) y.0 y.1 (span' y.0)) (λ k. (sym same k, sym here k))
             (subst (Bound z.first path' chained' cause' (g.head + rest') g.tail (s.memory.notice a) a i) (sym span_here) bound_here)
         bound_by x j (inr (apart, d)) = subst (Bound z.first path' chained' cause' (g.head + rest') g.tail (s.memory.notice x) x j) (sym (span_else x apart)) (bound_old x j d)
+
+        left_by : (x j h : ℕ) → Decides x j → g.ann ≢ Some x → (s.memory.notice x).old_head ≡ at z.first path' h → h + passes (s.memory.notice x).counts (j - h) ≤ g.head
+        left_by x j h (inl (same, _)) off old = absurd (off (at_head ∙ ap Some (sym same)))
+        left_by x j h (inr (apart, d)) off old = let dm = (L.announced.bound x j d).old_dummy in let within = (L.announced.bound x j d).within in let before = dm.2 in let count = ap (λ (q : Place). q.count) (sym dm.1 ∙ old) in
+            L.announced.left x j h d off (old ∙ ap (λ (r : ℕ). record { row = r; count = z.first + h }) (old_path h (omega arith)))
 
         recorded_by : (x j : ℕ) (q : Place) → Decides x j → old' x ≡ Some q → q ≡ at z.first path' j
         recorded_by x j q (inl (same, here)) is = recorded_here q (ap old' (sym same) ∙ is) ∙ ap (at z.first path') (sym here)
@@ -243,15 +257,21 @@ module _ (z : LaneSizes) (s : State) (L : Lawful z s) (a i n : ℕ) (waits : L.g
 
       -- THE decision: the owner's command takes effect, and all callers are as they were
       pub decision : (Touch : ℕ → Type 0) → Rely z Touch (world s L.ghost) decided_world
-          → ((r : ℕ) → Touch r → (z.home r ≡ owner_of z a) × NotToCome z (owner_of z a) (s.callers (owner_of z a)).taken (s.callers (owner_of z a)).stopped r)
-          → Linearized z decided_world a i (s.callers (owner_of z a)).started_at (own_group (owner_of z a) (s.callers (owner_of z a)))
+          → ((r : ℕ) → Touch r → (z.home r ≡ owner_of z a) × (s.memory.mark r ≢ both_marks))
+          → shown' ≡ got + stops → (0 < stops → got ≡ L.ghost.rest) → ((r j : ℕ) → L.ghost.spot r ≡ Some j → spot' r ≡ Some j)
+          → ((r j : ℕ) → spot' r ≡ Some j → (L.ghost.spot r ≡ Some j)
+          ⊎ ((L.ghost.head ≤ j) × ((s.memory.mark r).free ≡ false) × ((s.memory.mark r).passed ≡ false) × ((s.memory.mark r).read ≡ is_paid (owed_reader L.ghost.reader L.ghost.head (owner_of z a) got stops j))))
+          → (Takes z (world s L.ghost) (owner_of z a) (s.callers (owner_of z a)).rows × Debts z (world s L.ghost) (owner_of z a) [] [] × Distinct (s.callers (owner_of z a)).rows
+          → Effect z decided_world (owner_of z a) a i (s.callers (owner_of z a)).started_at (own_group (owner_of z a) (s.callers (owner_of z a))) (s.callers (owner_of z a)).rows)
           → last_queue (s.history ++ own_group (owner_of z a) (s.callers (owner_of z a)) ∷ []) ≡ shown_queue s.memory.value decided_ghost
           → InOrder z decided_memory (s.history ++ own_group (owner_of z a) (s.callers (owner_of z a)) ∷ []) decided_ghost
           → Announced z decided_memory decided_ghost
           → enqueued (s.callers (owner_of z a)).ops ≡ run (λ j. s.memory.value (path' j)) (suc i) (s.memory.notice a).counts.enqs
           → Lawful z record { memory = decided_memory; history = s.history ++ own_group (owner_of z a) (s.callers (owner_of z a)) ∷ []; callers = s.callers }
-      decision Touch rely touches linearized queue list announced values = record {
+      decision Touch rely touches shows last there new_rows effect queue list announced values = record {
         ghost = decided_ghost;
+        sizes = L.sizes;
+        marks = marked_owed z s L bare owner got stops decided_memory (s.history ++ group ∷ []) decided_ghost (le_refl _) (ap (λ (y : ℕ). g.head + y) shows) last new_rows;
         history = joins_proper z s L owner waiting_rows.not_yet waiting_rows.known some_ops;
         queue = queue;
         list = list;
@@ -260,15 +280,22 @@ module _ (z : LaneSizes) (s : State) (L : Lawful z s) (a i n : ℕ) (waits : L.g
         pending = λ x w. absurd (none_waits x w);
         callers = λ d. record {
           guards = guards_stable z (world s L.ghost) decided_world d (s.callers d).hold refl refl rely.anns.installed (L.callers d).guards;
+          guards_row = guards_row_stable z (world s L.ghost) decided_world d (s.callers d).row_hold rely.rows refl refl (L.callers d).guards_row;
           own_groups = all_groups z s L a i waiting_rows.not_yet d;
           allowed = (L.callers d).allowed;
-          knows = all_know z s L a i Touch decided_world rely at_head waits touches (λ _. refl) alone here_decided (λ _. refl) (λ _. refl) (λ x apart. (stage_else x apart, refl, old_else x apart)) linearized told_now.helps d;
+          knows = all_know z s L a i Touch decided_world rely at_head waits touches (λ _. refl) alone here_decided (λ _. refl) (λ _. refl) (λ _. refl) (λ _. refl) (λ x apart. (stage_else x apart, refl, old_else x apart)) (λ _. refl)
+              (near_owed z s L bare owner got stops decided_memory (s.history ++ group ∷ []) decided_ghost (le_refl _) there back owner)
+              (no_debts_owed z s L bare owner got stops decided_memory (s.history ++ group ∷ []) decided_ghost (le_refl _) there back) effect told_now.helps d;
         };
       } where
+        back : (r j : ℕ) → spot' r ≡ Some j → j < g.head → g.spot r ≡ Some j
+        back r j at early = ⊎_elim (λ (old : g.spot r ≡ Some j). old)
+            (λ (new : (g.head ≤ j) × ((s.memory.mark r).free ≡ false) × ((s.memory.mark r).passed ≡ false) × ((s.memory.mark r).read ≡ is_paid (owed_reader g.reader g.head owner got stops j))). let late = new.0 in absurd (omega arith)) (new_rows r j at)
+
         told_after : Told z.home s.memory.value path' (stage' a) (s.memory.notice a) owner kept_by
         told_after = record {
           describes = told_now.describes;
-          some = told_now.some;
+          several = told_now.several;
           first = told_now.first;
           last = told_now.last;
           helps = told_now.helps;

@@ -1,5 +1,5 @@
 -- Each step of a dequeue keeps the lane lawful.
-use Rattle.std.proofs.Common.{◌≡◌, ℕ, suc, ◌+◌, ◌<◌, ◌≤◌, Bool, true, false, cond, List, [], ◌∷◌, ◌++◌, length, sym, refl, ap, ◌∙◌, subst, arith, le_refl, ◌≢◌, eqb, eq-eqb, ◌-◌}
+use Rattle.std.proofs.Common.{◌≡◌, ℕ, suc, ◌+◌, ◌<◌, ◌≤◌, Bool, true, false, cond, List, [], ◌∷◌, ◌++◌, length, sym, refl, ap, ◌∙◌, subst, arith, ◌≢◌, eqb, eq-eqb, ◌-◌}
 use Rattle.bq_model.specs.declared.op.Op.TheVariants.{Deq}
 use Rattle.bq_model.specs.declared.op.Answer.TheVariants.{Got, Empty}
 use Rattle.bq_model.specs.declared.group.Group.{Group}
@@ -12,15 +12,15 @@ use Rattle.word_rows.specs.declared.link_word.LinkWord.{LinkWord}
 use Rattle.word_rows.specs.declared.link_word.LinkWord.TheVariants.{Nil, Single, Chain, Shut}
 use Rattle.word_rows.specs.declared.location.Location.TheVariants.{Head, Link, Value}
 use Rattle.word_rows.specs.declared.content.Content.TheVariants.{OfHead, OfLink, OfValue}
-use Rattle.core_model.specs.declared.point.Closing.TheVariants.{Plain}
-use Rattle.core_model.specs.declared.course.Course.TheVariants.{GoesOn, Ends}
-use Rattle.core_model.specs.Functions.{run}
-use Rattle.core_model.specs.LaneSizes.{LaneSizes}
-use Rattle.core_model.specs.State.{Memory, State, write, own_group, head_in, tail_in}
-use Rattle.core_model.specs.Act.{is_node, behind, same_place, location}
-use Rattle.core_model.specs.Fact.{next_is, is_op, linked}
-use Rattle.core_model.specs.Step.{history_after, followed, step_with, step_at, stepped}
-use Rattle.core_model.specs.Facts.{Holds, AtPoint}
+use Rattle.lane_steps.specs.declared.point.Closing.TheVariants.{Plain}
+use Rattle.lane_steps.specs.declared.course.Course.TheVariants.{GoesOn, Passes}
+use Rattle.lane_steps.specs.Functions.{run}
+use Rattle.lane_steps.specs.LaneSizes.{LaneSizes}
+use Rattle.lane_steps.specs.State.{Memory, State, command, write, own_group, head_in, tail_in}
+use Rattle.lane_steps.specs.Act.{is_node, behind, same_place, location}
+use Rattle.lane_steps.specs.Fact.{next_is, is_op, linked, linearized_is, own_rows}
+use Rattle.lane_steps.specs.Step.{history_after, followed, step_with, step_at, stepped, closes}
+use Rattle.core_model.specs.Facts.{Holds, Each, AtPoint}
 use Rattle.core_model.specs.Ghost.{Ghost}
 use Rattle.core_model.specs.Lawful.{Lawful}
 use Rattle.core_model.proofs.Rely.{third, fourth, world}
@@ -29,23 +29,26 @@ use Rattle.core_model.proofs.StoredAgain.{same_places, write_read}
 use Rattle.std.proofs.lemmas.Bool.{and_from}
 use mathlib.Core.Logic.{dite}
 use native.Mathlib.Decide.{dec_le}
-use Rattle.core_model.specs.declared.point.Point.TheVariants.{Idle}
-use Rattle.core_model.specs.Help.{help_of}
-use Rattle.core_model.specs.declared.point.DequeuePoint.{DequeuePoint}
+use Rattle.lane_steps.specs.declared.point.Point.TheVariants.{Idle}
+use Rattle.lane_steps.specs.Help.{help_of}
+use Rattle.lane_steps.specs.declared.point.DequeuePoint.{DequeuePoint}
 use Rattle.core_model.proofs.Tails.{exchanges, with_memory}
-use Rattle.core_model.proofs.Lookups.{on_list, next_found, node_found}
+use Rattle.core_model.proofs.Lookups.{next_found, node_found}
+use Rattle.core_model.proofs.Losses.{no_rows}
+use Rattle.lane_steps.specs.declared.point.ClosePoint.TheVariants as close
+use Rattle.lane_steps.specs.declared.point.Guarding.TheVariants as guard
+use Rattle.lane_steps.specs.declared.point.GuardPoint.TheVariants.{StoreHazard}
 use Rattle.bq_model.specs.declared.shape.Shape.{Shape}
 use Rattle.word_rows.specs.declared.content.Content.{Content}
 use Rattle.word_rows.specs.Contents.{MayHold}
 use Rattle.word_rows.specs.Fits.{limits_of, PlaceFits}
-use Rattle.core_model.specs.Coded.{PointFits, CourseFits}
+use Rattle.lane_steps.specs.Coded.{PointFits, CourseFits}
 use Rattle.core_model.proofs.Fitting.{fresh_help, course_either}
-use Rattle.core_model.specs.declared.point.Point.TheVariants as point
-use Rattle.core_model.specs.declared.point.DequeuePoint.TheVariants as deq
-use Rattle.core_model.specs.declared.point.Back.TheVariants as back
-use Rattle.core_model.specs.declared.point.HelpPoint.TheVariants as help
-use Rattle.core_model.specs.Dequeue as dequeue
-use Rattle.core_model.proofs.HeadMoves.{last, bare_queue, none_queued, head_moved, found_empty}
+use Rattle.lane_steps.specs.declared.point.Point.TheVariants as point
+use Rattle.lane_steps.specs.declared.point.DequeuePoint.TheVariants as deq
+use Rattle.lane_steps.specs.declared.point.Back.TheVariants as back
+use Rattle.lane_steps.specs.Dequeue as dequeue
+use Rattle.core_model.proofs.HeadMoves.{bare_queue, none_queued, head_moved, found_empty}
 
 module _ (z : LaneSizes) (s : State) (L : Lawful z s) (c : ℕ) where
   abbrev G : Ghost
@@ -55,10 +58,8 @@ module _ (z : LaneSizes) (s : State) (L : Lawful z s) (c : ℕ) where
   own = own_group c (s.callers c)
 
   deq_head : (x : HeadWord) → s.memory.head ≡ x → AtPoint z (world s L.ghost) c (s.callers c) (point.Dequeue deq.LoadHead) → Lawful z (step_with z s c (point.Dequeue deq.LoadHead) (OfHead x))
-  deq_head (Node p) is f = let node = (node_found z s L c p is).1 in let count = ap (λ (q : Place). q.count) node in
-      stutters z s L c (point.Dequeue (deq.LoadLink p)) Head (OfHead (Node p)) (ap OfHead is)
-      (record { call = f.call; here = (on_list z s L c p G.head count (ap (λ (q : Place). q.row) node) (le_refl _) (omega arith), (omega arith, tt)) })
-  deq_head (Ann a n) is f = stutters z s L c (point.Help (help_of a n back.Dequeue) help.StoreHazard) Head (OfHead (Ann a n)) (ap OfHead is) (record { call = ((λ own. absurd own), f.call); here = tt })
+  deq_head (Node p) is f = stutters z s L c (point.Guard (guard.Dequeue p) StoreHazard) Head (OfHead (Node p)) (ap OfHead is) (record { call = f.call; here = tt })
+  deq_head (Ann a n) is f = stutters z s L c (point.Guard (guard.Help (help_of a n back.Dequeue)) StoreHazard) Head (OfHead (Ann a n)) (ap OfHead is) (record { call = ((λ own. absurd own), f.call); here = tt })
 
   preserves_deq_head : (s.callers c).point ≡ (point.Dequeue deq.LoadHead) → Lawful z (step_at z s c (point.Dequeue deq.LoadHead))
   preserves_deq_head is = deq_head s.memory.head refl (known z s L c (point.Dequeue deq.LoadHead) is)
@@ -104,13 +105,23 @@ module _ (z : LaneSizes) (s : State) (L : Lawful z s) (c : ℕ) where
       stutters z s L c (point.Dequeue (deq.MoveHead p n (s.memory.value n))) (Value n) (OfValue (s.memory.value n)) refl
       (record { call = f.call; here = (next, ((third f.here), ((f.here.0, λ e. let y = next.there G.head e in let inside = y.0 in (omega arith, ap s.memory.value y.1)), tt))) })
 
+  -- the command has no rows of a batch
+  bare : (f : Each z (world s L.ghost) c (dequeue.call_knows (command (s.callers c)))) → Holds z (world s L.ghost) c (linearized_is false (s.callers c).rows [] []) × Holds z (world s L.ghost) c (own_rows (s.callers c).rows)
+  bare f = (subst (λ (rows : List ℕ). Holds z (world s L.ghost) c (linearized_is false rows [] [])) (sym f.1.0.2) f.0, no_rows z c (world s L.ghost) (s.callers c).rows f.1.0.2)
+
+  some_ops : (f : Each z (world s L.ghost) c (dequeue.call_knows (command (s.callers c)))) → (s.callers c).ops ≢ []
+  some_ops f none = never (sym f.1.0.0 ∙ none) where
+    never : Deq ∷ [] ≡ [] → ⊥
+    never e = cc e
+
   -- HEAD moves by one row
   moved : (p : Place) (n v : ℕ) → AtPoint z (world s L.ghost) c (s.callers c) (point.Dequeue (deq.MoveHead p n v)) → s.memory.head ≡ Node p
-      → Lawful z (changed s c (record s.memory { head = Node (behind p n) }) (s.history ++ own_group c (s.callers c) ∷ []) (last z s L c (Plain (Got v))))
-  moved p n v f head = head_moved z s L c p n 1 (Plain (Got v)) f.call.0 op.1 some head (let l = there.0 in omega arith) (sym (next.there G.head count).1 ∙ ap G.path (let e : suc G.head ≡ G.head + 1 = omega arith in e)) (let l = f.here.1.0 in let cnt = count in omega arith)
+      → Lawful z (changed s c (record s.memory { head = Node (behind p n) }) (s.history ++ own_group c (s.callers c) ∷ []) (record (s.callers c) { point = point.Close (Plain (Got v)) (close.MarkRow p false true false); walked = n ∷ [] }))
+  moved p n v f head = head_moved z s L c p n 1 (n ∷ []) (Plain (Got v)) refl (bare f.call).0 (bare f.call).1 op.1 (some_ops f.call) head (omega arith) refl (ap (λ (r : ℕ). r ∷ []) (sym (next.there G.head count).1)) (let l = there.0 in omega arith)
+      (sym (next.there G.head count).1 ∙ ap G.path (let e : suc G.head ≡ G.head + 1 = omega arith in e)) (let l = f.here.1.0 in let cnt = count in omega arith)
       (ap (λ (q : List ℕ). answers_from q (Deq ∷ [])) (sym queue_was) ∙ ap (answers_from (last_queue s.history)) (sym op.0))
       (ap (queue_from (last_queue s.history)) op.0 ∙ (ap (λ (q : List ℕ). queue_from q (Deq ∷ [])) queue_was ∙ ap (λ (j : ℕ). run value_at j (G.rest - 1)) (let e : suc (suc G.head) ≡ suc G.head + 1 = omega arith in e))) where
-        op : Holds z (world s L.ghost) c (is_op (s.callers c).ops Deq)
+        op : Holds z (world s L.ghost) c (is_op (s.callers c).ops (s.callers c).rows Deq)
         op = f.call.1.0
 
         next : Holds z (world s L.ghost) c (next_is p n)
@@ -125,17 +136,12 @@ module _ (z : LaneSizes) (s : State) (L : Lawful z s) (c : ℕ) where
         there : (0 < G.rest) × (value_at (suc G.head) ≡ v)
         there = (third f.here).1 count
 
-        some : (s.callers c).ops ≢ []
-        some none = never (sym op.0 ∙ none) where
-          never : Deq ∷ [] ≡ [] → ⊥
-          never e = cc e
-
         queue_was : last_queue s.history ≡ v ∷ run value_at (suc (suc G.head)) (G.rest - 1)
         queue_was = bare_queue z s L c (node_found z s L c p head).0 ∙ (ap (run value_at (suc G.head)) (let l = there.0 in let e : G.rest ≡ suc (G.rest - 1) = omega arith in e) ∙ ap (λ (y : ℕ). y ∷ run value_at (suc (suc G.head)) (G.rest - 1)) there.1)
 
   move_head : (p : Place) (n v : ℕ) (x : HeadWord) → s.memory.head ≡ x → (b : Bool) → is_node x p ≡ b → AtPoint z (world s L.ghost) c (s.callers c) (point.Dequeue (deq.MoveHead p n v))
       → Lawful z (changed s c (write s.memory Head (cond b (OfHead (Node (behind p n))) (OfHead x))) (history_after b s.history own)
-      (followed z (length (history_after b s.history own)) c (s.callers c) (cond b (Ends (Got v)) (GoesOn (point.Dequeue deq.LoadHead)))))
+      (followed z (length (history_after b s.history own)) c (s.callers c) (cond b (Passes (Plain (Got v)) p n) (GoesOn (point.Dequeue deq.LoadHead)))))
   move_head p n v x is false apart f = stutters z s L c (point.Dequeue deq.LoadHead) Head (OfHead x) (ap OfHead is) (record { call = f.call; here = tt })
   move_head p n v (Node q) is true same f = moved p n v f (is ∙ ap Node (same_places q p same))
   move_head p n v (Ann a m) is true same f = absurd (cc same)
@@ -145,16 +151,11 @@ module _ (z : LaneSizes) (s : State) (L : Lawful z s) (c : ℕ) where
 
   -- the queue is empty: the command takes effect and ends
   empty : (p : Place) → s.memory.link p.row ≡ Nil → AtPoint z (world s L.ghost) c (s.callers c) (point.Dequeue (deq.LoadLink p)) → Lawful z (step_with z s c (point.Dequeue (deq.LoadLink p)) (OfLink Nil))
-  empty p nil f = subst (λ (m : Memory). Lawful z (changed s c m (s.history ++ own ∷ []) (last z s L c (Plain Empty)))) (sym (ap (write s.memory (Link p.row)) (ap OfLink (sym nil)) ∙ write_read s.memory (Link p.row)))
-      (found_empty z s L c (Plain Empty) f.call.0 op.1 some (ap (λ (q : List ℕ). answers_from q (Deq ∷ [])) (sym none) ∙ ap (answers_from (last_queue s.history)) (sym op.0))
+  empty p nil f = subst (λ (m : Memory). Lawful z (changed s c m (s.history ++ own ∷ []) (closes (length (s.history ++ own ∷ [])) c (s.callers c) (Plain Empty)))) (sym (ap (write s.memory (Link p.row)) (ap OfLink (sym nil)) ∙ write_read s.memory (Link p.row)))
+      (found_empty z s L c (Plain Empty) refl (bare f.call).0 (bare f.call).1 op.1 (some_ops f.call) (ap (λ (q : List ℕ). answers_from q (Deq ∷ [])) (sym none) ∙ ap (answers_from (last_queue s.history)) (sym op.0))
       (ap (queue_from (last_queue s.history)) op.0 ∙ (ap (λ (q : List ℕ). queue_from q (Deq ∷ [])) none ∙ sym none))) where
-        op : Holds z (world s L.ghost) c (is_op (s.callers c).ops Deq)
+        op : Holds z (world s L.ghost) c (is_op (s.callers c).ops (s.callers c).rows Deq)
         op = f.call.1.0
-
-        some : (s.callers c).ops ≢ []
-        some none = never (sym op.0 ∙ none) where
-          never : Deq ∷ [] ≡ [] → ⊥
-          never e = cc e
 
         none : last_queue s.history ≡ []
         none = none_queued z s L c p f.here.0 f.here.1.0 nil
@@ -185,7 +186,7 @@ module _ (z : LaneSizes) (s : State) (L : Lawful z s) (c : ℕ) where
 -- and it goes on with what fits
 module _ (s : Shape) where
   head_fits : (x : HeadWord) → MayHold s Head (OfHead x) → PointFits s (dequeue.after_head x)
-  head_fits (Node p) m = m.1
+  head_fits (Node p) m = (tt, m.1)
   head_fits (Ann n k) m = (fresh_help s n k back.Dequeue m.1.0 m.1.1 tt, tt)
 
   link_fits : (p : Place) (x : LinkWord) → PlaceFits (limits_of s) p → MayHold s (Link p.row) (OfLink x) → CourseFits s (dequeue.after_link p x)
@@ -205,5 +206,5 @@ module _ (s : Shape) where
   dequeue_fits (deq.LoadTailOver p r) x a m = either_fits (same_place (tail_in x) p) deq.LoadHead (deq.LoadValue p r) tt a
   dequeue_fits (deq.PassTail p r) x a m = tt
   dequeue_fits (deq.LoadValue p r) x a m = a
-  dequeue_fits (deq.MoveHead p r v) x a m = course_either s (is_node (head_in x) p) (Ends _) (GoesOn (point.Dequeue deq.LoadHead)) tt tt
+  dequeue_fits (deq.MoveHead p r v) x a m = course_either s (is_node (head_in x) p) (Passes (Plain (Got v)) p r) (GoesOn (point.Dequeue deq.LoadHead)) a tt
   dequeue_fits _ _ a m = absurd m.0

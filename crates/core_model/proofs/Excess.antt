@@ -1,6 +1,5 @@
 -- What the excess of operations tells of a batch, and of one of dequeues alone.
-use Rattle.std.proofs.Common.{◌≡◌, ℕ, zero, suc, ◌+◌, ◌≤◌, List, [], ◌∷◌, length, refl, ap, subst, arith, le_refl}
-use Rattle.std.proofs.Common.{◌≡◌, ℕ, suc, ◌+◌, ◌≤◌, List, [], ◌∷◌, length, refl, ap, subst, arith, le_refl, take_all}
+use Rattle.std.proofs.Common.{◌≡◌, ℕ, zero, suc, ◌+◌, ◌≤◌, List, [], ◌∷◌, length, refl, ap, subst, arith, le_refl, take_all}
 use Rattle.bq_model.specs.declared.op.Op.{Op}
 use Rattle.excess_count.specs.Excess.{enqueue_count, dequeue_count, excess_of}
 use Rattle.excess_count.proofs.ExcessLaws.{IsExcess-excess_of, excess_of-nil, excess_of-deq, enqueue_count-enq, enqueue_count-deq, dequeue_count-deq, excess_of-enq}

@@ -8,9 +8,9 @@ use Rattle.word_rows.specs.declared.link_word.LinkWord.TheVariants.{Nil, Single,
 use Rattle.word_rows.specs.declared.location.Location.{Location}
 use Rattle.word_rows.specs.declared.location.Location.TheVariants.{Head, Tail, Link, Value, Mark, NodeHazard, AnnHazard, AnnWord}
 use Rattle.word_rows.specs.declared.content.Content.TheVariants.{OfHead, OfTail, OfLink}
-use Rattle.core_model.specs.LaneSizes.{LaneSizes}
-use Rattle.core_model.specs.State.{State, read}
-use Rattle.core_model.specs.Ranges.{NamesRows}
+use Rattle.lane_steps.specs.LaneSizes.{LaneSizes}
+use Rattle.lane_steps.specs.State.{State, read}
+use Rattle.lane_steps.specs.Ranges.{NamesRows}
 use Rattle.core_model.specs.Lawful.{LinksIn, Lawful}
 use Rattle.core_model.proofs.Lookups.{node_found}
 use Rattle.core_model.proofs.Ends.{tail_fits, head_fits}

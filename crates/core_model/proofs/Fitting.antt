@@ -3,12 +3,12 @@ use Rattle.std.proofs.Common.{ℕ, ◌<◌, Bool, true, false, cond, arith, ◌^
 use Rattle.bq_model.specs.declared.shape.Shape.{Shape}
 use Rattle.word_rows.specs.Fits.{limits_of, PlaceFits}
 use Rattle.word_rows.specs.Sizes.{rows_of, anns_of}
-use Rattle.core_model.specs.declared.course.Course.{Course}
-use Rattle.core_model.specs.declared.point.Back.{Back}
-use Rattle.core_model.specs.declared.point.Point.{Point}
-use Rattle.core_model.specs.Fits.{BackFits, HelpFits}
-use Rattle.core_model.specs.Coded.{PointFits, CourseFits}
-use Rattle.core_model.specs.Help.{help_of}
+use Rattle.lane_steps.specs.declared.course.Course.{Course}
+use Rattle.lane_steps.specs.declared.point.Back.{Back}
+use Rattle.lane_steps.specs.declared.point.Point.{Point}
+use Rattle.lane_steps.specs.Fits.{BackFits, HelpFits}
+use Rattle.lane_steps.specs.Coded.{PointFits, CourseFits}
+use Rattle.lane_steps.specs.Help.{help_of}
 
 module _ (s : Shape) where
   pub no_row : 0 < rows_of s

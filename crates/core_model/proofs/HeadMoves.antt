@@ -1,5 +1,5 @@
 -- HEAD moves over rows as a command of dequeues ends, or the command finds the queue empty.
-use Rattle.std.proofs.Common.{◌≡◌, ℕ, suc, ◌+◌, ◌*◌, ◌<◌, ◌≤◌, false, [], ◌∷◌, ◌++◌, length, sym, refl, ap, ◌∙◌, arith, le_refl, Some, None, ◌≢◌, ◌-◌, inl, true}
+use Rattle.std.proofs.Common.{◌≡◌, ℕ, suc, ◌+◌, ◌*◌, ◌<◌, ◌≤◌, Bool, false, List, [], ◌∷◌, ◌++◌, length, sym, refl, ap, ◌∙◌, subst, arith, le_refl, Some, None, ◌≢◌, ◌-◌, inl, inr, true}
 use Rattle.bq_model.specs.declared.group.Group.{Group}
 use Rattle.bq_model.specs.Replay.{answers_from, queue_from}
 use Rattle.bq_model.specs.History.{last_queue}
@@ -7,25 +7,39 @@ use Rattle.bq_model.proofs.Histories.{last_queue-push}
 use Rattle.word_rows.specs.declared.place.Place.{Place}
 use Rattle.word_rows.specs.declared.head_word.HeadWord.TheVariants.{Node}
 use Rattle.word_rows.specs.declared.link_word.LinkWord.TheVariants.{Nil}
-use Rattle.core_model.specs.Functions.{run, put}
-use Rattle.core_model.specs.LaneSizes.{LaneSizes}
-use Rattle.core_model.specs.State.{Memory, Caller, State, own_group}
-use Rattle.core_model.specs.Act.{far_behind}
-use Rattle.core_model.specs.Fact.{linearized_is, linked, head_seen}
-use Rattle.core_model.specs.Step.{closes, stepped, closing_answers}
-use Rattle.core_model.specs.Facts.{Holds}
-use Rattle.core_model.specs.Ghost.{at, Ghost, World}
+use Rattle.lane_steps.specs.Functions.{run, put, upto, rising}
+use Rattle.lane_steps.specs.LaneSizes.{LaneSizes}
+use Rattle.lane_steps.specs.State.{Memory, Caller, State, own_group}
+use Rattle.lane_steps.specs.Act.{far_behind}
+use Rattle.lane_steps.specs.Fact.{linearized_is, linked, head_seen, own_rows}
+use Rattle.lane_steps.specs.Answers.{closing_answers}
+use Rattle.lane_steps.specs.Close.{is_done, to_pass}
+use Rattle.lane_steps.specs.Step.{closes}
+use Rattle.core_model.specs.Rows.{Debts, OwesRows}
+use Rattle.core_model.specs.Facts.{Holds, AtPoint}
+use Rattle.core_model.specs.Ghost.{at, owes, Ghost, World}
 use Rattle.core_model.specs.Lawful.{shown_queue, head_word, Listed, ItemRows, Headed, Tailed, Announced, Lawful}
 use Rattle.core_model.proofs.Groups.{mine-push_other, length-operations-push}
-use Rattle.core_model.proofs.Rely.{world, some_none, anns_moved, Rely}
-use Rattle.core_model.proofs.Preserves.{preserves, changed, rely_history, drafts_same, told_plain, waits_plain, waits_there, closed}
-use Rattle.core_model.proofs.Joins.{joins_proper, closing_groups, closing_knows}
+use Rattle.core_model.proofs.Rely.{world, some_none, true_false, anns_moved, rows_same, NoDebts, Rely}
+use Rattle.core_model.proofs.Callers.{guards_row_stable}
+use Rattle.core_model.proofs.Preserves.{preserves, changed, rely_history, drafts_same, debts_same, told_plain, waits_plain, waits_there}
+use Rattle.core_model.proofs.Joins.{joins_proper, joins_groups, joins_knows, joins_answered}
+use Rattle.core_model.proofs.RowsStable.{takes_stable, debts_stable, own_rows_stable}
+use Rattle.core_model.proofs.Owing.{owed_passer, owed_reader, pass_owed, read_owed, marked_owed, near_owed, no_debts_owed, debts_owed}
+use Rattle.core_model.proofs.Closes.{answers_so}
+use Rattle.core_model.proofs.Losses.{losing, losing_point, rows_behind, closing_knows, closed}
+use Rattle.std.proofs.lemmas.Bool.{lt-ltb}
+use Rattle.std.specs.Prelude.{nat_lt}
+use Rattle.lane_steps.specs.declared.point.ClosePoint.TheVariants as close
+use Rattle.lane_steps.specs.declared.point.Point.{Point}
+use mathlib.Core.Logic.{dite}
+use native.Mathlib.Decide.{dec_le}
 use Rattle.core_model.proofs.Announces.{stages_moved, pending_same}
 use Rattle.core_model.proofs.Lookups.{is_last, node_found}
-use Rattle.core_model.specs.declared.point.Closing.{Closing}
-use Rattle.core_model.specs.declared.point.Point.TheVariants as point
-use Rattle.core_model.proofs.Puts.{put_else}
-use Rattle.core_model.specs.Batches.{owner_of}
+use Rattle.lane_steps.specs.declared.point.Closing.{Closing}
+use Rattle.lane_steps.specs.declared.point.Point.TheVariants as point
+use Rattle.core_model.proofs.Puts.{put_here, put_else}
+use Rattle.lane_steps.specs.Batches.{owner_of}
 
 module _ (z : LaneSizes) (s : State) (L : Lawful z s) (c : ℕ) where
   abbrev G : Ghost
@@ -34,13 +48,6 @@ module _ (z : LaneSizes) (s : State) (L : Lawful z s) (c : ℕ) where
   abbrev own : Group
   own = own_group c (s.callers c)
 
-  -- the command ends by this step
-  abbrev pub last : Closing → Caller
-  last x = closes (length (s.history ++ own_group c (s.callers c) ∷ [])) c (s.callers c) (s.callers c).hold x
-
-  abbrev k' : Closing → Caller
-  k' x = stepped (s.callers c) (point.Clear x)
-
   abbrev value_at : ℕ → ℕ
   value_at j = s.memory.value (L.ghost.path j)
 
@@ -48,9 +55,9 @@ module _ (z : LaneSizes) (s : State) (L : Lawful z s) (c : ℕ) where
   pub bare_queue : L.ghost.ann ≡ None → last_queue s.history ≡ run value_at (suc L.ghost.head) L.ghost.rest
   bare_queue no_ann = let b = L.list.head.none no_ann in let fits = L.list.head.fits in L.queue ∙ (λ i. run value_at (suc ((let f : G.head + G.shown ≡ G.head = omega arith in f) i)) ((let f : G.queued ≡ G.rest = omega arith in f) i))
 
-  -- HEAD moves from the dummy p over m rows, to the row r, and the command ends with these answers
-  module _ (p : Place) (r m : ℕ) (x : Closing) (off : Holds z (world s L.ghost) c (linearized_is false)) (known_caller : c < z.callers) (some : (s.callers c).ops ≢ []) (head : s.memory.head ≡ Node p)
-      (enough : m ≤ L.ghost.rest) (row_is : r ≡ L.ghost.path (L.ghost.head + m)) (past : L.ghost.head + m ≤ L.ghost.tail) (right : closing_answers (s.callers c).ops (s.callers c).values x ≡ answers_from (last_queue s.history) (s.callers c).ops)
+  -- HEAD moves from the dummy p over m rows, which are these, to the row r, and the command is done, with these answers
+  module _ (p : Place) (r m : ℕ) (ws : List ℕ) (x : Closing) (done : is_done x ≡ true) (off : Holds z (world s L.ghost) c (linearized_is false (s.callers c).rows [] [])) (loose : Holds z (world s L.ghost) c (own_rows (s.callers c).rows)) (known_caller : c < z.callers) (some : (s.callers c).ops ≢ [])
+      (head : s.memory.head ≡ Node p) (many : 0 < m) (all : length ws ≡ m) (walked : ws ≡ run L.ghost.path (suc L.ghost.head) m) (enough : m ≤ L.ghost.rest) (row_is : r ≡ L.ghost.path (L.ghost.head + m)) (past : L.ghost.head + m ≤ L.ghost.tail) (right : closing_answers (s.callers c).ops (s.callers c).values x ≡ answers_from (last_queue s.history) (s.callers c).ops)
       (leaves : queue_from (last_queue s.history) (s.callers c).ops ≡ run (λ j. s.memory.value (L.ghost.path j)) (suc L.ghost.head + m) (L.ghost.rest - m)) where
     count_is : p.count ≡ z.first + G.head
     count_is = ap (λ (q : Place). q.count) (node_found z s L c p head).1
@@ -70,7 +77,11 @@ module _ (z : LaneSizes) (s : State) (L : Lawful z s) (c : ℕ) where
     left = L.ghost.rest - m
 
     abbrev G' : Ghost
-    G' = record G { head = G.head + m; rest = left; queued = left; linearized = put G.linearized c true }
+    G' = record G { head = G.head + m; rest = left; queued = left; linearized = put G.linearized c true; passer = owed_passer G.passer G.head c m 0; reader = owed_reader G.reader G.head c m 0 }
+
+    -- it marks the rows from the old dummy on
+    abbrev t' : Point
+    t' = point.Close x (close.MarkRow p false true false)
 
     abbrev memory' : Memory
     memory' = record s.memory { head = Node (far_behind p r m) }
@@ -89,9 +100,11 @@ module _ (z : LaneSizes) (s : State) (L : Lawful z s) (c : ℕ) where
       path_same = λ _ _. refl;
       chained_same = λ _ _. refl;
       spot_own = λ _ u _. u;
-      on_same = λ i r on. (on.spot, ((λ x. on.link.0 (omega arith)), λ x. on.link.1 (omega arith)), refl);
+      rows = rows_same (world s G) W (λ _ _ at. at) refl;
+      on_same = λ i r on _. (((λ x. on.link.0 (omega arith)), λ x. on.link.1 (omega arith)), refl);
       link_own = λ _ _ _. refl;
       value_own = λ _ _ _. refl;
+      mark_own = λ _ _ _. refl;
       value_path = λ _ _ _. refl;
       anns = anns_moved z (world s G) W refl refl (λ _ _. refl) (λ _ _ _ e. e) (λ a at. absurd (none_stands a at));
       holds = λ _ _ e. inl e;
@@ -107,7 +120,47 @@ module _ (z : LaneSizes) (s : State) (L : Lawful z s) (c : ℕ) where
       last = ap (λ (i : ℕ). s.memory.link (G.path i)) e ∙ L.list.rows.last;
       spots = λ i from below. L.list.rows.spots i (omega arith) (omega arith);
       inside = λ i below. L.list.rows.inside i (omega arith);
+      placed = λ r i at. let was = L.list.rows.placed r i at in let below = was.0 in (omega arith, was.1);
     }
+
+    heads : G.head ≤ G'.head
+    heads = omega arith
+
+    -- the marks that it is to set
+    to_mark : OwesRows z W c p false false ws
+    to_mark = let e = same_end in let n = all in record {
+      position = G.head;
+      count = count_is;
+      row = sym (ap (λ (q : Place). q.row) (node_found z s L c p head).1);
+      inside = omega arith;
+      behind = walked ∙ ap (run G.path (suc G.head)) (sym all);
+      owed = λ y le. dite (dec_le m y) (λ last. inl (read y (omega arith) (omega arith))) (λ less. inr (passed y (omega arith)));
+      spots = λ y le. L.list.rows.spots (G.head + y) (omega arith) (omega arith);
+      first_read = λ no. absurd (true_false (sym no));
+      reads = λ y some le. read y some (omega arith);
+      passes = λ y less. (passed y (omega arith), omega arith);
+    } where
+      read : (y : ℕ) → 0 < y → y ≤ m → G'.reader (G.head + y) ≡ owes c
+      read y some le = read_owed z s L bare c m 0 (G.head + y) (omega arith) (omega arith)
+
+      passed : (y : ℕ) → y < m → G'.passer (G.head + y) ≡ owes c
+      passed y less = pass_owed z s L bare c m 0 (G.head + y) (omega arith) (omega arith)
+
+    -- what it knows then
+    knows' : AtPoint z W c (record (s.callers c) { point = t'; walked = ws }) t'
+    knows' = record {
+      call = (
+        subst (λ (b : Bool). Holds z W c (linearized_is b (s.callers c).rows (upto p.count (to_pass (length ws) false)) (upto (suc p.count) (length ws)))) (sym done)
+            (put_here G.linearized c true, off.1, (λ no. absurd (true_false no)), takes_stable z (λ _. ⊥) (world s G) W rely c (λ _ _ x. x) (s.callers c).rows off.3, subst (λ (y : List ℕ × List ℕ). Debts z W c y.0 y.1) same_places (debts_owed z s L bare c m 0 memory' (s.history ++ own ∷ []) G' heads off.4)),
+        answers_so z W c (s.callers c) t' (s.callers c).rows ws (s.callers c).retired (s.callers c).named (s.callers c).hold (s.callers c).row_hold x (joins_answered z s L c W x done refl right),
+      );
+      here = (to_mark, (own_rows_stable z (λ _. ⊥) (world s G) W rely c (λ _ _ x. x) (s.callers c).rows loose, (first_passed, tt)));
+    } where
+      first_passed : true ≡ nat_lt 0 (to_pass (length ws) false)
+      first_passed = let n = all in sym (lt-ltb 0 (to_pass (length ws) false) (omega arith))
+
+      same_places : ◌≡◌ {A = List ℕ × List ℕ} (upto (z.first + G.head) (m + 0), upto (z.first + suc G.head) m) (upto p.count (to_pass (length ws) false), upto (suc p.count) (length ws))
+      same_places = let cnt = count_is in λ i. (upto (sym count_is i) ((let e : m + 0 ≡ to_pass (length ws) false = ap (λ (n : ℕ). n + 0) (sym all) in e) i), upto ((let e : z.first + suc G.head ≡ suc p.count = omega arith in e) i) (sym all i))
 
     items' : ItemRows z G.path (G.head + m) left G.shown
     items' = let e = same_end in λ i above below. L.list.item_rows i (omega arith) (omega arith)
@@ -131,12 +184,14 @@ module _ (z : LaneSizes) (s : State) (L : Lawful z s) (c : ℕ) where
 
     announced' : Announced z memory' G'
     announced' = let e = same_end in stages_moved z.first (z.callers * z.callers) G.stage G.ann s.memory.notice s.memory.old_tail G.span G.path G.path G.chained G.chained G.cause G.head (G.head + m) (G.head + G.rest) (G.head + m + left) G.shown G.shown G.tail G.tail
-        (omega arith) (omega arith) (λ _ _. refl) (λ _ _. refl) (le_refl _) (λ a at. absurd (none_stands a at)) (λ a i at _. absurd (none_stands a at))
+        (omega arith) (omega arith) (omega arith) (λ _ _. refl) (λ _ _. refl) (le_refl _) (λ a at. absurd (none_stands a at)) (λ a i at _. absurd (none_stands a at))
         (λ a i f none. absurd (none_stands a (L.announced.unrecorded a i f none).0))
         (λ below is. let x = L.announced.lags (omega arith) is in absurd (none_stands x.0 x.2)) L.announced
 
-    pub head_moved : Lawful z (changed s c memory' (s.history ++ own_group c (s.callers c) ∷ []) (last x))
-    head_moved = closed z s c memory' (s.history ++ own ∷ []) (s.callers c) x (preserves z s L c memory' (s.history ++ own ∷ []) G' (k' x) (λ _. ⊥) (λ _ x. absurd x) rely (λ d apart. record { linearized = put_else G.linearized c true d apart; made = mine-push_other s.history own d apart; drafts = drafts_same z (world s G) W refl refl refl d; hazard = refl; held = refl })
+    pub head_moved : Lawful z (changed s c (record s.memory { head = Node (far_behind p r m) }) (s.history ++ own_group c (s.callers c) ∷ []) (record (s.callers c) { point = point.Close x (close.MarkRow p false true false); walked = ws }))
+    head_moved = preserves z s L c memory' (s.history ++ own ∷ []) G' (record (s.callers c) { point = t'; walked = ws }) (λ _. ⊥) (λ _ x. absurd x) rely
+        (λ d apart. record { linearized = put_else G.linearized c true d apart; made = mine-push_other s.history own d apart; drafts = drafts_same z (world s G) W refl refl refl d; hazard = refl; held = refl; row_hazard = refl; row_held = refl; debts = no_debts_owed z s L bare c m 0 memory' (s.history ++ own ∷ []) G' heads (λ _ _ at. at) (λ _ _ at _. at) d apart })
+        (marked_owed z s L bare c m 0 memory' (s.history ++ own ∷ []) G' heads (let b = bare in omega arith) (λ none. absurd (omega arith)) (λ _ _ at. inl at))
         (joins_proper z s L c off.0 known_caller some) queue'
         (record {
           rows = listed';
@@ -149,17 +204,18 @@ module _ (z : LaneSizes) (s : State) (L : Lawful z s) (c : ℕ) where
         announced' (λ a at. absurd (none_stands a at)) (λ a waits. absurd (none_stands a (L.announced.waits a waits).0))
         (record {
           guards = (L.callers c).guards;
-          own_groups = closing_groups z s L c off.0 x right;
+          guards_row = guards_row_stable z (world s G) W c (s.callers c).row_hold rely.rows refl refl (L.callers c).guards_row;
+          own_groups = joins_groups z s L c off.0 t' (s.callers c).rows ws;
           allowed = (L.callers c).allowed;
-          knows = closing_knows z s L c off.0 x right (λ _. ⊥) W rely refl refl off.1 (λ _ bad. absurd bad);
-        }))
+          knows = joins_knows z s L c off.0 t' (s.callers c).rows ws (λ _. ⊥) W rely (near_owed z s L bare c m 0 memory' (s.history ++ own ∷ []) G' heads (λ _ _ at. at) (λ _ _ at _. at) c) (λ _ _ x. x) refl knows';
+        })
 
   -- nothing lies behind the dummy, and no announcement stands
   pub none_queued : (p : Place) → Holds z (world s L.ghost) c (linked p) → Holds z (world s L.ghost) c (head_seen p) → s.memory.link p.row ≡ Nil → last_queue s.history ≡ []
   none_queued p on seen nil = let end = is_last z s L c p on nil in let seen' = seen in let count = on.count in let fits = L.list.head.fits in L.queue ∙ ap (run value_at (suc (G.head + G.shown))) (let e : G.queued ≡ 0 = omega arith in e)
 
   -- the command takes effect and ends, and leaves the queue as it is
-  module _ (x : Closing) (off : Holds z (world s L.ghost) c (linearized_is false)) (known_caller : c < z.callers) (some : (s.callers c).ops ≢ [])
+  module _ (x : Closing) (done : is_done x ≡ true) (off : Holds z (world s L.ghost) c (linearized_is false (s.callers c).rows [] [])) (loose : Holds z (world s L.ghost) c (own_rows (s.callers c).rows)) (known_caller : c < z.callers) (some : (s.callers c).ops ≢ [])
       (right : closing_answers (s.callers c).ops (s.callers c).values x ≡ answers_from (last_queue s.history) (s.callers c).ops) (leaves : queue_from (last_queue s.history) (s.callers c).ops ≡ last_queue s.history) where
     abbrev H : Ghost
     H = record L.ghost { linearized = put L.ghost.linearized c true }
@@ -167,21 +223,34 @@ module _ (z : LaneSizes) (s : State) (L : Lawful z s) (c : ℕ) where
     abbrev E : World
     E = record { memory = s.memory; history = s.history ++ own ∷ []; ghost = H }
 
+    abbrev k' : Caller
+    k' = losing (s.callers c) x (rising (s.callers c).rows)
+
     on_empty : Rely z (λ _. ⊥) (world s L.ghost) E
     on_empty = rely_history z s G (put G.linearized c true) (s.history ++ own ∷ []) (own ∷ [], refl)
 
-    pub found_empty : Lawful z (changed s c s.memory (s.history ++ own_group c (s.callers c) ∷ []) (last x))
-    found_empty = closed z s c s.memory (s.history ++ own ∷ []) (s.callers c) x (preserves z s L c s.memory (s.history ++ own ∷ []) H (k' x) (λ _. ⊥) (λ _ x. absurd x) on_empty
-        (λ d apart. record { linearized = put_else G.linearized c true d apart; made = mine-push_other s.history own d apart; drafts = drafts_same z (world s G) E refl refl refl d; hazard = refl; held = refl })
-        (joins_proper z s L c off.0 known_caller some) (last_queue-push s.history own ∙ (leaves ∙ L.queue))
+    still_debts : (d : ℕ) → NoDebts (world s G) E d
+    still_debts d = debts_same (world s G) E refl refl refl refl refl d
+
+    knows_empty : AtPoint z E c k' (losing_point x (rising (s.callers c).rows))
+    knows_empty = closing_knows z c E (s.callers c) x
+        (subst (λ (b : Bool). Holds z E c (linearized_is b (s.callers c).rows [] [])) (sym done)
+        (put_here G.linearized c true, off.1, (λ no. absurd (true_false no)), takes_stable z (λ _. ⊥) (world s G) E on_empty c (λ _ _ x. x) (s.callers c).rows off.3, debts_stable z (λ _. ⊥) (world s G) E on_empty c (still_debts c) [] [] off.4))
+        (own_rows_stable z (λ _. ⊥) (world s G) E on_empty c (λ _ _ x. x) (s.callers c).rows loose) (joins_answered z s L c E x done refl right)
+
+    pub found_empty : Lawful z (changed s c s.memory (s.history ++ own_group c (s.callers c) ∷ []) (closes (length (s.history ++ own_group c (s.callers c) ∷ [])) c (s.callers c) x))
+    found_empty = closed z c s s.memory (s.history ++ own ∷ []) (s.callers c) x (preserves z s L c s.memory (s.history ++ own ∷ []) H k' (λ _. ⊥) (λ _ x. absurd x) on_empty
+        (λ d apart. record { linearized = put_else G.linearized c true d apart; made = mine-push_other s.history own d apart; drafts = drafts_same z (world s G) E refl refl refl d; hazard = refl; held = refl; row_hazard = refl; row_held = refl; debts = still_debts d })
+        L.marks (joins_proper z s L c off.0 known_caller some) (last_queue-push s.history own ∙ (leaves ∙ L.queue))
         (record { rows = L.list.rows; item_rows = L.list.item_rows; head = L.list.head; tail = L.list.tail; counts = let more = length-operations-push s.history own in let was = L.list.counts in omega arith; links = L.list.links })
-        L.announced (told_plain z s L c s.memory H (k' x) off.1 L.told)
-        (waits_plain z s L c s.memory H (k' x) off.1 (waits_there z s L c) (λ a waits. let p = L.pending a waits in
-        pending_same z s.memory.link s.memory.link s.memory.value s.memory.value G.spot G.spot G.chain (G.linearized (owner_of z a)) (put G.linearized c true (owner_of z a)) (s.memory.notice a) (owner_of z a) (s.callers (owner_of z a))
-        (λ _ _. refl) (λ _ _. refl) p.unlinked (put_else G.linearized c true (owner_of z a) (off.1 a (waits_there z s L c a waits))) p))
+        L.announced (told_plain z s L c s.memory H k' off.1 L.told)
+        (waits_plain z s L c s.memory H k' off.1 (waits_there z s L c) (λ a waits. let p = L.pending a waits in
+        pending_same z s.memory.link s.memory.link s.memory.value s.memory.value s.memory.mark s.memory.mark G.spot G.spot G.chain (G.linearized (owner_of z a)) (put G.linearized c true (owner_of z a)) (s.memory.notice a) (owner_of z a) (s.callers (owner_of z a))
+        (λ _ _. refl) (λ _ _. refl) (λ _ _. refl) p.unlinked (put_else G.linearized c true (owner_of z a) (off.1 a (waits_there z s L c a waits))) p))
         (record {
           guards = (L.callers c).guards;
-          own_groups = closing_groups z s L c off.0 x right;
+          guards_row = (L.callers c).guards_row;
+          own_groups = joins_groups z s L c off.0 (losing_point x (rising (s.callers c).rows)) (rows_behind (rising (s.callers c).rows)) (s.callers c).walked;
           allowed = (L.callers c).allowed;
-          knows = closing_knows z s L c off.0 x right (λ _. ⊥) E on_empty refl refl off.1 (λ _ bad. absurd bad);
+          knows = joins_knows z s L c off.0 (losing_point x (rising (s.callers c).rows)) (rows_behind (rising (s.callers c).rows)) (s.callers c).walked (λ _. ⊥) E on_empty (still_debts c).near (λ _ _ x. x) refl knows_empty;
         }))

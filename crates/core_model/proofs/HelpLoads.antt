@@ -9,26 +9,29 @@ use Rattle.word_rows.specs.declared.link_word.LinkWord.TheVariants.{Nil, Single,
 use Rattle.word_rows.specs.declared.location.AnnField.TheVariants as field
 use Rattle.word_rows.specs.declared.location.Location.TheVariants.{Tail, Link, AnnWord}
 use Rattle.word_rows.specs.declared.content.Content.TheVariants.{OfHead, OfTail, OfLink, OfOldTail, OfChainEnd, OfCounts}
-use Rattle.core_model.specs.declared.point.Help.{Help}
-use Rattle.core_model.specs.declared.point.Point.TheVariants as point
-use Rattle.core_model.specs.declared.point.HelpPoint.TheVariants as help
-use Rattle.core_model.specs.Functions.{put}
-use Rattle.core_model.specs.LaneSizes.{LaneSizes}
-use Rattle.core_model.specs.State.{Memory, State, write}
-use Rattle.core_model.specs.Act.{same_place}
-use Rattle.core_model.specs.Fact.{reads, linked, stands_at, is_old_tail, before_end}
-use Rattle.core_model.specs.Step.{stepped, step_with, step_at}
+use Rattle.lane_steps.specs.declared.point.Help.{Help}
+use Rattle.lane_steps.specs.declared.point.Point.TheVariants as point
+use Rattle.lane_steps.specs.declared.point.Guarding.TheVariants as guard
+use Rattle.lane_steps.specs.declared.point.GuardPoint.TheVariants.{StoreHazard}
+use Rattle.lane_steps.specs.declared.point.HelpPoint.TheVariants as help
+use Rattle.lane_steps.specs.Functions.{put}
+use Rattle.lane_steps.specs.LaneSizes.{LaneSizes}
+use Rattle.lane_steps.specs.State.{Memory, State, write}
+use Rattle.lane_steps.specs.Act.{same_place}
+use Rattle.lane_steps.specs.Fact.{reads, linked, stands_at, is_old_tail, before_end}
+use Rattle.lane_steps.specs.Step.{stepped, step_with, step_at}
 use Rattle.core_model.specs.Facts.{IsDecidedBehind, Holds, AtPoint}
 use Rattle.core_model.specs.Ghost.{Stage, unused, waiting, decided, Ghost, World, positions, at}
 use Rattle.core_model.specs.Lawful.{Lawful}
 use Rattle.core_model.proofs.Puts.{put_here, put_else, put_all}
-use Rattle.core_model.proofs.Rely.{third, world, unused_decides, waits_decides, one_position, one_some, some_none, anns_moved, Rely}
-use Rattle.core_model.proofs.Preserves.{caller_stable, known, stutters, point_changes, changed}
+use Rattle.core_model.proofs.Rely.{third, world, unused_decides, waits_decides, one_position, one_some, some_none, anns_moved, rows_same, Rely}
+use Rattle.core_model.proofs.Callers.{caller_stable}
+use Rattle.core_model.proofs.Preserves.{known, stutters, point_changes, changed, debts_same}
 use Rattle.core_model.proofs.Tails.{exchanges, with_memory}
-use Rattle.core_model.proofs.Lookups.{on_list, next_found}
+use Rattle.core_model.proofs.Lookups.{next_found}
 use Rattle.core_model.proofs.Counting.{chain_pos}
 use Rattle.core_model.proofs.HelpWalk.{known_old}
-use Rattle.core_model.specs.Help.{at_old_tail, has_enough, before_it}
+use Rattle.lane_steps.specs.Help.{at_old_tail, has_enough, before_it}
 
 -- an installed announcement whose OldTail is known is decided
 pub decided_known : (z : LaneSizes) (s : State) (L : Lawful z s) (a : ℕ) (q : Place) → L.ghost.stage a ≢ unused → s.memory.old_tail a ≡ Some q → (i : ℕ) × (L.ghost.stage a ≡ decided i)
@@ -63,9 +66,7 @@ module _ (z : LaneSizes) (s : State) (L : Lawful z s) (c : ℕ) where
       (record { call = (record { installed = r.installed; kept = r.kept; inside = r.inside; old_head = λ _. r.old_head (omega arith); first = λ _. r.first (omega arith); last = λ _. r.last (omega arith); counts = λ _. refl }, f.call.1); here = tt })
 
   pub preserves_help_tail : (h : Help) → (s.callers c).point ≡ point.Help h help.LoadTail → Lawful z (step_at z s c (point.Help h help.LoadTail))
-  preserves_help_tail h is = let f = known z s L c (point.Help h help.LoadTail) is in let within = L.list.tail.within in let from = L.list.tail.after_head in let count = ap (λ (p : Place). p.count) L.list.tail.named in
-      stutters z s L c (point.Help h (help.LoadOldTail s.memory.tail)) Tail (OfTail s.memory.tail) refl
-      (record { call = f.call; here = (on_list z s L c s.memory.tail G.tail count (ap (λ (p : Place). p.row) L.list.tail.named) from (omega arith), (omega arith, ((f.call.0.installed, λ _. omega arith), tt))) })
+  preserves_help_tail h is = let f = known z s L c (point.Help h help.LoadTail) is in stutters z s L c (point.Guard (guard.HelpTail h s.memory.tail) StoreHazard) Tail (OfTail s.memory.tail) refl (record { call = f.call; here = tt })
 
   -- where OldTail isn't known, the tail that was read before is no later than the old tail
   module _ (h : Help) (p : Place) (none : s.memory.old_tail h.ann ≡ None) (f : AtPoint z (world s L.ghost) c (s.callers c) (point.Help h (help.LoadOldTail p))) where
@@ -166,9 +167,11 @@ module _ (z : LaneSizes) (s : State) (L : Lawful z s) (c : ℕ) where
       path_same = λ _ _. refl;
       chained_same = λ _ _. refl;
       spot_own = λ _ u _. u;
-      on_same = λ i r on. (on.spot, on.link, refl);
+      rows = rows_same (world s G) R (λ _ _ at. at) refl;
+      on_same = λ i r on _. (on.link, refl);
       link_own = λ _ _ _. refl;
       value_own = λ _ _ _. refl;
+      mark_own = λ _ _ _. refl;
       value_path = λ _ _ _. refl;
       anns = anns_moved z (world s G) R refl refl (λ _ _. refl) (λ x q _ is. put_else s.memory.old_tail a (Some p) x (λ e. some_none (sym is ∙ (ap s.memory.old_tail e ∙ none))) ∙ is) (λ x at_head. (at_head, refl, refl));
       holds = λ _ _ e. inl e;
@@ -178,6 +181,8 @@ module _ (z : LaneSizes) (s : State) (L : Lawful z s) (c : ℕ) where
     pub recorded : Lawful z record { memory = record s.memory { old_tail = put s.memory.old_tail a (Some p) }; history = s.history; callers = s.callers }
     recorded = record {
       ghost = G;
+      sizes = L.sizes;
+      marks = L.marks;
       history = L.history;
       queue = L.queue;
       list = L.list;
@@ -193,11 +198,12 @@ module _ (z : LaneSizes) (s : State) (L : Lawful z s) (c : ℕ) where
             (λ i e is. sym (one_some is) ∙ (placed.2 ∙ ap (at z.first G.path) (one_position placed.1 e))) (λ x _ i e is. A.recorded x i q e is) x i e;
         unrecorded = λ x i e. put_all s.memory.old_tail a (Some p) (λ x y. (i : ℕ) → G.stage x ≡ decided i → y ≡ None → (G.ann ≡ Some x) × (G.tail ≤ i) × (0 < G.span x))
             (λ i _ is. absurd (some_none is)) (λ x _ i e is. A.unrecorded x i e is) x i e;
+        left = A.left;
         lags = A.lags;
       };
       told = L.told;
       pending = L.pending;
-      callers = λ d. caller_stable z (λ _. ⊥) (world s G) R recording d (s.callers d) (λ _ _ x. x) (record { linearized = refl; made = refl; drafts = λ x _ u. (u, refl, put_else s.memory.old_tail a (Some p) x (apart x u)); hazard = refl; held = refl }) (L.callers d);
+      callers = λ d. caller_stable z (λ _. ⊥) (world s G) R recording d (s.callers d) (λ _ _ x. x) (record { linearized = refl; made = refl; drafts = λ x _ u. (u, refl, put_else s.memory.old_tail a (Some p) x (apart x u)); hazard = refl; held = refl; row_hazard = refl; row_held = refl; debts = debts_same (world s G) R refl refl refl refl refl d }) (L.callers d);
     }
 
   tail_recorded : (h : Help) (p : Place) (x : Option Place) → s.memory.old_tail h.ann ≡ x → (s.callers c).point ≡ point.Help h (help.RecordTail p) → Lawful z (step_with z s c (point.Help h (help.RecordTail p)) (OfOldTail x))

@@ -1,7 +1,9 @@
 -- A helper moves TAIL over the rows that were linked, walks on, and moves HEAD to the new dummy.
-use Rattle.std.proofs.Common.{◌≡◌, inr, ℕ, suc, ◌+◌, ◌*◌, ◌<◌, ◌≤◌, eqb, Bool, true, false, cond, [], sym, refl, ap, ◌∙◌, subst, arith, le_refl, eq-eqb, Some, None, inl}
+use Rattle.std.proofs.Common.{◌≡◌, inr, ℕ, suc, ◌+◌, ◌-◌, ◌*◌, ◌<◌, ◌≤◌, eqb, Bool, true, false, cond, [], sym, refl, ap, ◌∙◌, subst, arith, le_refl, Some, None, inl}
 use Rattle.std.proofs.lemmas.List.{append-nil}
-use Rattle.std.proofs.lemmas.Bool.{eqb-true, and_from, and_parts}
+use Rattle.std.proofs.lemmas.Bool.{eqb-true, and_parts}
+use mathlib.Core.Logic.{dite}
+use native.Mathlib.Decide.{ℕ_discrete}
 use Rattle.word_rows.specs.declared.place.Place.{Place}
 use Rattle.word_rows.specs.declared.head_word.HeadWord.{HeadWord}
 use Rattle.word_rows.specs.declared.head_word.HeadWord.TheVariants.{Node, Ann}
@@ -9,25 +11,26 @@ use Rattle.word_rows.specs.declared.link_word.LinkWord.{LinkWord}
 use Rattle.word_rows.specs.declared.link_word.LinkWord.TheVariants.{Nil, Single, Chain, Shut}
 use Rattle.word_rows.specs.declared.location.Location.TheVariants.{Head, Tail, Link}
 use Rattle.word_rows.specs.declared.content.Content.TheVariants.{OfHead, OfTail, OfLink}
-use Rattle.core_model.specs.declared.point.Help.{Help}
-use Rattle.core_model.specs.declared.point.Point.TheVariants as point
-use Rattle.core_model.specs.declared.point.HelpPoint.TheVariants as help
-use Rattle.core_model.specs.Functions.{run}
-use Rattle.core_model.specs.LaneSizes.{LaneSizes}
-use Rattle.core_model.specs.State.{Memory, State, write}
-use Rattle.core_model.specs.Act.{same_place, is_ann, far_behind}
-use Rattle.core_model.specs.Fact.{reads, old_tail_is, tail_over, gets_so_many, walks, has_links}
-use Rattle.core_model.specs.Help.{before_it, walk_on, walk, back_point}
-use Rattle.core_model.specs.Step.{stepped, step_with, step_at}
+use Rattle.lane_steps.specs.declared.point.Help.{Help}
+use Rattle.lane_steps.specs.declared.point.Point.TheVariants as point
+use Rattle.lane_steps.specs.declared.point.HelpPoint.TheVariants as help
+use Rattle.lane_steps.specs.Functions.{run}
+use Rattle.lane_steps.specs.LaneSizes.{LaneSizes}
+use Rattle.lane_steps.specs.State.{Memory, State, write}
+use Rattle.lane_steps.specs.Act.{same_place, is_ann, far_behind}
+use Rattle.lane_steps.specs.Fact.{reads, old_tail_is, tail_over, gets_so_many, walks, has_links}
+use Rattle.lane_steps.specs.Help.{before_it, walk_on, walk, back_point}
+use Rattle.lane_steps.specs.Step.{stepped, step_with, step_at}
 use Rattle.core_model.specs.Facts.{Holds, AtPoint}
 use Rattle.core_model.specs.Ghost.{waiting, decided, Ghost, World, joint, at}
-use Rattle.core_model.specs.Lawful.{head_word, LinksIn, Bound, Announced, Lawful}
-use Rattle.core_model.proofs.Rely.{third, world, waits_decides, one_position, one_some, some_none, anns_same, anns_moved, Rely}
-use Rattle.core_model.proofs.Preserves.{caller_stable, known, stutters, point_changes, changed, drafts_same}
+use Rattle.core_model.specs.Lawful.{head_word, LinksIn, Bound, Marked, Announced, Lawful}
+use Rattle.core_model.proofs.Rely.{third, world, waits_decides, one_position, one_some, some_none, anns_same, anns_moved, rows_same, NoDebts, Rely}
+use Rattle.core_model.proofs.Callers.{caller_stable}
+use Rattle.core_model.proofs.Preserves.{known, stutters, point_changes, changed, drafts_same, debts_same}
 use Rattle.core_model.proofs.StoredAgain.{same_places}
 use Rattle.core_model.proofs.Announces.{stages_moved}
-use Rattle.core_model.proofs.Lookups.{ann_stands, not_ann}
-use Rattle.core_model.specs.Stopper.{linked_rows}
+use Rattle.core_model.proofs.Lookups.{ann_stands, not_ann, not_there}
+use Rattle.lane_steps.specs.Stopper.{linked_rows, passes}
 use Rattle.core_model.proofs.HelpWalk.{differ, same_place_refl, past_old, on_walk, goes_back, span_is, walk_begins}
 
 module _ (z : LaneSizes) (s : State) (L : Lawful z s) (c : ℕ) where
@@ -97,9 +100,11 @@ module _ (z : LaneSizes) (s : State) (L : Lawful z s) (c : ℕ) where
       path_same = λ _ _. refl;
       chained_same = λ _ _. refl;
       spot_own = λ _ u _. u;
-      on_same = λ i r on. (on.spot, on.link, refl);
+      rows = rows_same (world s L.ghost) W (λ _ _ at. at) refl;
+      on_same = λ i r on _. (on.link, refl);
       link_own = λ _ _ _. refl;
       value_own = λ _ _ _. refl;
+      mark_own = λ _ _ _. refl;
       value_path = λ _ _ _. refl;
       anns = anns_same z (world s L.ghost) W refl refl refl refl refl refl refl;
       holds = λ _ _ e. inl e;
@@ -109,6 +114,8 @@ module _ (z : LaneSizes) (s : State) (L : Lawful z s) (c : ℕ) where
     went_over : Lawful z record { memory = record s.memory { tail = far_behind q h.last (linked_rows h.counts (before_it h q)) }; history = s.history; callers = s.callers }
     went_over = let e = end in let t = tail_is in let from = L.list.tail.after_head in record {
       ghost = GT;
+      sizes = L.sizes;
+      marks = L.marks;
       history = L.history;
       queue = L.queue;
       list = record {
@@ -126,13 +133,13 @@ module _ (z : LaneSizes) (s : State) (L : Lawful z s) (c : ℕ) where
         links = L.list.links;
       };
       announced = stages_moved z.first (z.callers * z.callers) G0.stage G0.ann s.memory.notice s.memory.old_tail G0.span G0.path G0.path G0.chained G0.chained G0.cause G0.head G0.head (G0.head + G0.rest) (G0.head + G0.rest) G0.shown G0.shown G0.tail (G0.tail + span)
-          (le_refl _) (omega arith) (λ _ _. refl) (λ _ _. refl) (omega arith) (λ _ _. (refl, refl))
+          (le_refl _) (le_refl _) (omega arith) (λ _ _. refl) (λ _ _. refl) (omega arith) (λ _ _. (refl, refl))
           (λ x i at_head d. inr (subst (λ (y : ℕ). i + G0.span y ≤ G0.tail + span) (sym (alone x at_head)) (let same = one_position (ap G0.stage (sym (alone x at_head)) ∙ d) old.is_decided in omega arith)))
           (λ x i d none. absurd (some_none (sym old.old_tail ∙ (ap s.memory.old_tail (sym (alone x (L.announced.unrecorded x i d none).0)) ∙ none))))
           (λ below _. absurd (omega arith)) L.announced;
       told = L.told;
       pending = L.pending;
-      callers = λ d. caller_stable z (λ _. ⊥) (world s L.ghost) W rely d (s.callers d) (λ _ _ x. x) (record { linearized = refl; made = refl; drafts = drafts_same z (world s L.ghost) W refl refl refl d; hazard = refl; held = refl }) (L.callers d);
+      callers = λ d. caller_stable z (λ _. ⊥) (world s L.ghost) W rely d (s.callers d) (λ _ _ x. x) (record { linearized = refl; made = refl; drafts = drafts_same z (world s L.ghost) W refl refl refl d; hazard = refl; held = refl; row_hazard = refl; row_held = refl; debts = debts_same (world s L.ghost) W refl refl refl refl refl d }) (L.callers d);
     }
 
   over_moved : (h : Help) (q : Place) (b : Bool) → same_place s.memory.tail q ≡ b → (s.callers c).point ≡ point.Help h (help.MoveTailOver q)
@@ -225,9 +232,11 @@ module _ (z : LaneSizes) (s : State) (L : Lawful z s) (c : ℕ) where
       path_same = λ _ _. refl;
       chained_same = λ _ _. refl;
       spot_own = λ _ u _. u;
-      on_same = λ i r on. (on.spot, ((λ x. on.link.0 (omega arith)), λ x. on.link.1 (omega arith)), refl);
+      rows = rows_same (world s L.ghost) V (λ _ _ at. at) refl;
+      on_same = λ i r on _. (((λ x. on.link.0 (omega arith)), λ x. on.link.1 (omega arith)), refl);
       link_own = λ _ _ _. refl;
       value_own = λ _ _ _. refl;
+      mark_own = λ _ _ _. refl;
       value_path = λ _ _ _. refl;
       anns = anns_moved z (world s L.ghost) V refl refl (λ _ _. refl) (λ _ _ _ e. e) (λ x none. absurd (some_none (sym none)));
       holds = λ _ _ e. inl e;
@@ -241,6 +250,38 @@ module _ (z : LaneSizes) (s : State) (L : Lawful z s) (c : ℕ) where
     head_named = let count = ap (λ (p : Place). p.count) (sym (reading.old_head (omega arith)) ∙ L.announced.old_head h.ann at_head) in let shown = g.shown at_head in
         λ i. Node (record { row = row_is i; count = (let e : h.old_head.count + m ≡ z.first + (L.ghost.head + L.ghost.shown) = omega arith in e) i })
 
+    -- its owner marks the rows that it passed, no sooner
+    marked' : Marked s.memory.mark H.spot H.reader H.passer H.head H.shown
+    marked' = let M = L.marks in record {
+      kept = M.kept;
+      read = M.read;
+      passed = M.passed;
+      unread = λ i late. M.unread i (omega arith);
+      unpassed = λ i late. M.unpassed i (omega arith);
+      was_read = λ i early. M.was_read i (omega arith);
+      was_passed = λ i early. M.was_passed i (omega arith);
+      behind = λ i is. let before = M.behind i is in omega arith;
+    }
+
+    debts_kept : (d : ℕ) → NoDebts (world s L.ghost) V d
+    debts_kept d = record {
+      near = record {
+        reads = λ _ is. is;
+        passes = λ _ is. is;
+        retired = λ q i y. let before = y.before in record { spot = y.spot; before = omega arith; was_read = y.was_read; was_passed = y.was_passed; kept = y.kept };
+        no_retired = λ q i y. record { spot = y.spot; before = L.marks.behind i y.was_passed; was_read = y.was_read; was_passed = y.was_passed; kept = y.kept };
+      };
+      no_reads = λ _ is. is;
+      no_passes = λ _ is. is;
+    }
+
+    -- an announcement that has left HEAD was passed by all its rows, this one too
+    left_so : (x i d : ℕ) → L.ghost.stage x ≡ decided i → (s.memory.notice x).old_head ≡ at z.first L.ghost.path d → d + passes (s.memory.notice x).counts (i - d) ≤ L.ghost.head + L.ghost.shown
+    left_so x i d is old = dite (ℕ_discrete x h.ann)
+        (λ same. let there = at_head ∙ ap Some (sym same) in let count = ap (λ (p : Place). p.count) (sym old ∙ L.announced.old_head x there) in
+        subst (λ (y : ℕ). y + passes (s.memory.notice x).counts (i - y) ≤ L.ghost.head + L.ghost.shown) (let e : L.ghost.head ≡ d = omega arith in e) (let shows = (L.announced.standing x i there is).shows in omega arith))
+        (λ other. let early = L.announced.left x i d is (λ there. other (one_there x there)) old in omega arith)
+
     announced' : Announced z memory_head H
     announced' = let A = L.announced in let e = same_end in record {
       inside = λ x none. absurd (some_none (sym none));
@@ -252,12 +293,15 @@ module _ (z : LaneSizes) (s : State) (L : Lawful z s) (c : ℕ) where
       unknown = A.unknown;
       recorded = A.recorded;
       unrecorded = λ x i d none. absurd (some_none (sym t.known.1 ∙ (ap s.memory.old_tail (sym (one_there x (A.unrecorded x i d none).0)) ∙ none)));
+      left = λ x i d d_is off old. left_so x i d d_is old;
       lags = λ below by. let x = A.lags (omega arith) by in let same = one_position (ap L.ghost.stage (sym (one_there x.0 x.2)) ∙ x.1) t.is_decided in let over = t.past at_head in let some = ap L.ghost.span (one_there x.0 x.2) in let all = x.3 in absurd (omega arith);
     }
 
     head_moved : Lawful z record { memory = record s.memory { head = Node (far_behind h.old_head r m) }; history = s.history; callers = s.callers }
     head_moved = let e = same_end in let within = L.list.tail.within in let over = t.past at_head in let inside = (L.announced.standing h.ann t.position at_head t.is_decided).inside in record {
       ghost = H;
+      sizes = L.sizes;
+      marks = marked';
       history = L.history;
       queue = L.queue ∙ ap (λ (y : ℕ). run (λ i. s.memory.value (L.ghost.path i)) (suc y) L.ghost.queued) (let f : L.ghost.head + L.ghost.shown ≡ L.ghost.head + L.ghost.shown + 0 = omega arith in f);
       list = record {
@@ -266,6 +310,7 @@ module _ (z : LaneSizes) (s : State) (L : Lawful z s) (c : ℕ) where
           last = ap (λ (i : ℕ). s.memory.link (L.ghost.path i)) e ∙ L.list.rows.last;
           spots = λ i from below. L.list.rows.spots i (omega arith) (omega arith);
           inside = λ i below. L.list.rows.inside i (omega arith);
+          placed = λ q i at_i. let there = L.list.rows.placed q i at_i in let below = there.0 in (omega arith, there.1);
         };
         item_rows = λ i above below. L.list.item_rows i (omega arith) (omega arith);
         head = record { named = head_named; none = λ _. refl; fits = omega arith };
@@ -276,20 +321,15 @@ module _ (z : LaneSizes) (s : State) (L : Lawful z s) (c : ℕ) where
       announced = announced';
       told = λ x none. absurd (some_none (sym none));
       pending = λ x waits. absurd (none_waits x waits);
-      callers = λ d. caller_stable z (λ _. ⊥) (world s L.ghost) V moving d (s.callers d) (λ _ _ x. x) (record { linearized = refl; made = refl; drafts = drafts_same z (world s L.ghost) V refl refl refl d; hazard = refl; held = refl }) (L.callers d);
+      callers = λ d. caller_stable z (λ _. ⊥) (world s L.ghost) V moving d (s.callers d) (λ _ _ x. x) (record { linearized = refl; made = refl; drafts = drafts_same z (world s L.ghost) V refl refl refl d; hazard = refl; held = refl; row_hazard = refl; row_held = refl; debts = debts_kept d }) (L.callers d);
     }
-
-  -- HEAD has another word than the announcement's, so that doesn't stand
-  pub not_there : (h : Help) (x : HeadWord) → s.memory.head ≡ x → is_ann x h.ann h.old_head.count ≡ false → (s.memory.notice h.ann).old_head ≡ h.old_head → L.ghost.ann ≡ Some h.ann → ⊥
-  not_there h x at_x apart old at_head = differ (sym (ap (λ (y : HeadWord). is_ann y h.ann h.old_head.count) (sym at_x ∙ (L.list.head.named ∙ ap (head_word z.first L.ghost.path L.ghost.head) at_head)) ∙
-      and_from (eqb h.ann h.ann) (eqb (z.first + L.ghost.head) h.old_head.count) (eq-eqb h.ann h.ann refl) (eq-eqb (z.first + L.ghost.head) h.old_head.count (ap (λ (p : Place). p.count) (sym (L.announced.old_head h.ann at_head) ∙ old)))) ∙ apart)
 
   no_ann : (s' : State) (V : Lawful z s') (a : ℕ) (p : Place) → s'.memory.head ≡ Node p → V.ghost.ann ≡ Some a → ⊥
   no_ann s' V a p node at_head = not_ann p a (z.first + V.ghost.head) (sym node ∙ (V.list.head.named ∙ ap (head_word z.first V.ghost.path V.ghost.head) at_head))
 
   ann_found : (h : Help) (m r : ℕ) (x : HeadWord) → s.memory.head ≡ x → (b : Bool) → is_ann x h.ann h.old_head.count ≡ b → (s.callers c).point ≡ point.Help h (help.MoveHead m r)
       → Lawful z (changed s c (write s.memory Head (cond b (OfHead (Node (far_behind h.old_head r m))) (OfHead x))) s.history (stepped (s.callers c) (back_point h h.back)))
-  ann_found h m r x at_x false apart is = let f = known z s L c (point.Help h (help.MoveHead m r)) is in stutters z s L c (back_point h h.back) Head (OfHead x) (ap OfHead at_x) (goes_back z s L c h h.back (λ at_head. not_there h x at_x apart (f.call.0.old_head (omega arith)) at_head) f.call.0 (third f.here) f.call.1)
+  ann_found h m r x at_x false apart is = let f = known z s L c (point.Help h (help.MoveHead m r)) is in stutters z s L c (back_point h h.back) Head (OfHead x) (ap OfHead at_x) (goes_back z s L c h h.back (λ at_head. not_there z s L c h x at_x apart (f.call.0.old_head (omega arith)) at_head) f.call.0 (third f.here) f.call.1)
   ann_found h m r (Node p) at_x true e is = absurd (cc e)
   ann_found h m r (Ann y n) at_x true e is = let f = known z s L c (point.Help h (help.MoveHead m r)) is in let both = and_parts (eqb y h.ann) (eqb n h.old_head.count) e in
       let s' : State = record { memory = record s.memory { head = Node (far_behind h.old_head r m) }; history = s.history; callers = s.callers } in

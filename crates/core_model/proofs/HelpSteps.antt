@@ -1,12 +1,11 @@
 -- Each step of a help keeps the lane lawful.
 use Rattle.std.proofs.Common.{◌≡◌, ℕ, zero, suc, ◌-◌, ◌<◌, eqb, ltb, Bool, true, false, cond, Option, Some, None}
-use Rattle.core_model.specs.declared.point.Help.{Help}
-use Rattle.core_model.specs.declared.point.HelpPoint.{HelpPoint}
-use Rattle.core_model.specs.LaneSizes.{LaneSizes}
-use Rattle.core_model.specs.State.{State, tail_in, head_in}
-use Rattle.core_model.specs.Step.{step_at}
+use Rattle.lane_steps.specs.declared.point.Help.{Help}
+use Rattle.lane_steps.specs.declared.point.HelpPoint.{HelpPoint}
+use Rattle.lane_steps.specs.LaneSizes.{LaneSizes}
+use Rattle.lane_steps.specs.State.{State, tail_in}
+use Rattle.lane_steps.specs.Step.{step_at}
 use Rattle.core_model.specs.Lawful.{Lawful}
-use Rattle.core_model.specs.declared.course.Course.TheVariants.{GoesOn, Guards}
 use Rattle.core_model.proofs.HelpLoads.{preserves_help_old_head, preserves_help_first, preserves_help_last, preserves_help_counts, preserves_help_tail, preserves_help_old_tail, preserves_help_link, preserves_help_pass, preserves_record_tail}
 use Rattle.core_model.proofs.HelpMoves.{preserves_help_over, preserves_move_tail_over, preserves_help_walk, preserves_move_head_ann}
 use Rattle.core_model.proofs.ChainLink.{preserves_link_chain}
@@ -21,26 +20,22 @@ use Rattle.word_rows.specs.declared.content.Content.TheVariants.{OfHead, OfTail,
 use Rattle.word_rows.specs.Contents.{MayHold}
 use Rattle.word_rows.specs.Fits.{limits_of, PlaceFits}
 use Rattle.word_rows.specs.Sizes.{rows_of}
-use Rattle.core_model.specs.declared.point.Back.{Back}
-use Rattle.core_model.specs.Act.{same_place, location, is_ann}
+use Rattle.lane_steps.specs.declared.point.Back.{Back}
+use Rattle.lane_steps.specs.Act.{same_place, location}
 use Rattle.excess_count.specs.Counts.{successes_of}
-use Rattle.core_model.specs.Fits.{BackFits, HelpFits}
-use Rattle.core_model.specs.Coded.{PointFits, CourseFits}
-use Rattle.core_model.specs.Help.{help_of, before_it, walk_on, walk, back_point, walk_from, at_old_tail, has_enough}
-use Rattle.core_model.proofs.Fitting.{no_place, course_either}
-use Rattle.core_model.specs.declared.point.HelpPoint.TheVariants as help
-use Rattle.core_model.specs.declared.point.Point.TheVariants as point
+use Rattle.lane_steps.specs.Fits.{BackFits, HelpFits}
+use Rattle.lane_steps.specs.Coded.{PointFits, CourseFits}
+use Rattle.lane_steps.specs.Help.{before_it, walk_on, walk, back_point, walk_from, at_old_tail, has_enough}
+use Rattle.core_model.proofs.Fitting.{no_place}
+use Rattle.lane_steps.specs.declared.point.HelpPoint.TheVariants as help
+use Rattle.lane_steps.specs.declared.point.Point.TheVariants as point
 use Rattle.word_rows.specs.declared.location.AnnField.TheVariants as field
-use Rattle.core_model.specs.declared.point.Back.TheVariants as back
-use Rattle.core_model.specs.Help as helping
-use Rattle.core_model.specs.Stopper.{is_stopped, linked_rows}
+use Rattle.lane_steps.specs.declared.point.Back.TheVariants as back
+use Rattle.lane_steps.specs.Help as helping
+use Rattle.lane_steps.specs.Stopper.{is_stopped, linked_rows}
 use Rattle.core_model.proofs.Decides.{preserves_decide}
-use Rattle.core_model.proofs.Holds.{preserves_help_hazard, preserves_help_head}
-use Rattle.core_model.specs.declared.point.Hold.TheVariants.{Held}
 
 pub preserves_help : (z : LaneSizes) (s : State) (L : Lawful z s) (c : ℕ) (h : Help) (p : HelpPoint) → (s.callers c).point ≡ point.Help h p → Lawful z (step_at z s c (point.Help h p))
-preserves_help z s L c h help.StoreHazard is = preserves_help_hazard z s L c h is
-preserves_help z s L c h help.LoadHead is = preserves_help_head z s L c h is
 preserves_help z s L c h help.LoadOldHead is = preserves_help_old_head z s L c h is
 preserves_help z s L c h help.LoadFirst is = preserves_help_first z s L c h is
 preserves_help z s L c h help.LoadLast is = preserves_help_last z s L c h is
@@ -102,23 +97,21 @@ module _ (s : Shape) where
   help_walk h n r l (Chain y) a m = (a, walks_on n y l m.1)
   help_walk h n r l Shut a m = goes_back h h.back a a.goes_back
 
-  pub help_fits : (c : ℕ) (h : Help) (p : HelpPoint) (x : Content) → HelpFits s h → helping.fits s p → MayHold s (location (helping.act c h p)) x → CourseFits s (helping.course h p x)
-  help_fits c h help.StoreHazard x a b m = (a, tt)
-  help_fits c h help.LoadHead x a b m = course_either s (is_ann (head_in x) h.ann h.old_head.count) (Guards (point.Help h help.LoadOldHead) (Held h.ann)) (GoesOn (back_point h h.back)) (a, tt) (goes_back h h.back a a.goes_back)
-  help_fits c h help.LoadOldHead (OfHead (Node p)) a b m = (record { ann = a.ann; old_head = m.1; first = a.first; last = a.last; counts = a.counts; goes_back = a.goes_back }, tt)
-  help_fits c h help.LoadOldHead (OfHead (Ann n y)) a b m = (record { ann = a.ann; old_head = (no_place s); first = a.first; last = a.last; counts = a.counts; goes_back = a.goes_back }, tt)
-  help_fits c h help.LoadFirst (OfChainEnd r) a b m = (record { ann = a.ann; old_head = a.old_head; first = m.1; last = a.last; counts = a.counts; goes_back = a.goes_back }, tt)
-  help_fits c h help.LoadLast (OfChainEnd r) a b m = (record { ann = a.ann; old_head = a.old_head; first = a.first; last = m.1; counts = a.counts; goes_back = a.goes_back }, tt)
-  help_fits c h help.LoadCounts (OfCounts y) a b m = (record { ann = a.ann; old_head = a.old_head; first = a.first; last = a.last; counts = m.1; goes_back = a.goes_back }, tt)
-  help_fits c h help.LoadTail (OfTail q) a b m = (a, m.1)
-  help_fits c h (help.LoadOldTail p) (OfOldTail x) a b m = (a, old_tail_read h p x a b m)
-  help_fits c h (help.LoadLink p) (OfLink x) a b m = (a, help_link h p x b m)
-  help_fits c h (help.LinkChain p) x a b m = (a, tt)
-  help_fits c h (help.Decide p) (OfOldTail x) a b m = (a, tail_recorded h p x a b m)
-  help_fits c h (help.PassTail p r) x a b m = (a, tt)
-  help_fits c h (help.RecordTail p) (OfOldTail x) a b m = (a, tail_recorded h p x a b m)
-  help_fits c h (help.LoadTailOver q) x a b m = (a, help_either (same_place (tail_in x) q) (help.MoveTailOver q) (walk h q) b (walks h q a b))
-  help_fits c h (help.MoveTailOver q) x a b m = (a, walks h q a b)
-  help_fits c h (help.LoadWalk n r l) (OfLink x) a b m = help_walk h n r l x a m
-  help_fits c h (help.MoveHead n r) x a b m = goes_back h h.back a a.goes_back
-  help_fits c _ _ _ a b m = absurd m.0
+  pub help_fits : (h : Help) (p : HelpPoint) (x : Content) → HelpFits s h → helping.fits s p → MayHold s (location (helping.act h p)) x → CourseFits s (helping.course h p x)
+  help_fits h help.LoadOldHead (OfHead (Node p)) a b m = (record { ann = a.ann; old_head = m.1; first = a.first; last = a.last; counts = a.counts; goes_back = a.goes_back }, tt)
+  help_fits h help.LoadOldHead (OfHead (Ann n y)) a b m = (record { ann = a.ann; old_head = (no_place s); first = a.first; last = a.last; counts = a.counts; goes_back = a.goes_back }, tt)
+  help_fits h help.LoadFirst (OfChainEnd r) a b m = (record { ann = a.ann; old_head = a.old_head; first = m.1; last = a.last; counts = a.counts; goes_back = a.goes_back }, tt)
+  help_fits h help.LoadLast (OfChainEnd r) a b m = (record { ann = a.ann; old_head = a.old_head; first = a.first; last = m.1; counts = a.counts; goes_back = a.goes_back }, tt)
+  help_fits h help.LoadCounts (OfCounts y) a b m = (record { ann = a.ann; old_head = a.old_head; first = a.first; last = a.last; counts = m.1; goes_back = a.goes_back }, tt)
+  help_fits h help.LoadTail (OfTail q) a b m = (a, m.1)
+  help_fits h (help.LoadOldTail p) (OfOldTail x) a b m = (a, old_tail_read h p x a b m)
+  help_fits h (help.LoadLink p) (OfLink x) a b m = (a, help_link h p x b m)
+  help_fits h (help.LinkChain p) x a b m = (a, tt)
+  help_fits h (help.Decide p) (OfOldTail x) a b m = (a, tail_recorded h p x a b m)
+  help_fits h (help.PassTail p r) x a b m = (a, tt)
+  help_fits h (help.RecordTail p) (OfOldTail x) a b m = (a, tail_recorded h p x a b m)
+  help_fits h (help.LoadTailOver q) x a b m = (a, help_either (same_place (tail_in x) q) (help.MoveTailOver q) (walk h q) b (walks h q a b))
+  help_fits h (help.MoveTailOver q) x a b m = (a, walks h q a b)
+  help_fits h (help.LoadWalk n r l) (OfLink x) a b m = help_walk h n r l x a m
+  help_fits h (help.MoveHead n r) x a b m = goes_back h h.back a a.goes_back
+  help_fits _ _ _ a b m = absurd m.0

@@ -5,23 +5,23 @@ use mathlib.Core.Logic.{dite}
 use native.Mathlib.Decide.{dec_le}
 use Rattle.word_rows.specs.declared.place.Place.{Place}
 use Rattle.excess_count.specs.declared.counts.Counts.{Counts}
-use Rattle.core_model.specs.declared.point.Back.{Back}
-use Rattle.core_model.specs.declared.point.Back.TheVariants as back
-use Rattle.core_model.specs.declared.point.Help.{Help}
-use Rattle.core_model.specs.declared.point.Point.TheVariants as point
-use Rattle.core_model.specs.declared.point.HelpPoint.TheVariants as help
-use Rattle.core_model.specs.LaneSizes.{LaneSizes}
+use Rattle.lane_steps.specs.declared.point.Back.{Back}
+use Rattle.lane_steps.specs.declared.point.Back.TheVariants as back
+use Rattle.lane_steps.specs.declared.point.Help.{Help}
+use Rattle.lane_steps.specs.declared.point.Point.TheVariants as point
+use Rattle.lane_steps.specs.declared.point.HelpPoint.TheVariants as help
+use Rattle.lane_steps.specs.LaneSizes.{LaneSizes}
 use Rattle.excess_count.specs.Counts.{successes_of}
-use Rattle.core_model.specs.State.{Caller, command, State}
-use Rattle.core_model.specs.Act.{same_place}
-use Rattle.core_model.specs.Fact.{reads, old_tail_is, tail_over, gets_so_many, walks}
-use Rattle.core_model.specs.Help.{before_it, walk_on, walk, back_point, back_facts, walk_from, at_old_tail}
-use Rattle.core_model.specs.Step.{stepped}
+use Rattle.lane_steps.specs.State.{Caller, command, State}
+use Rattle.lane_steps.specs.Act.{same_place}
+use Rattle.lane_steps.specs.Fact.{reads, old_tail_is, tail_over, gets_so_many, walks}
+use Rattle.lane_steps.specs.Help.{before_it, walk_on, walk, back_point, back_facts, walk_from, at_old_tail}
+use Rattle.lane_steps.specs.Step.{stepped}
 use Rattle.core_model.specs.Facts.{Holds, Each, AtPoint}
 use Rattle.core_model.specs.Ghost.{decided, Ghost, at}
 use Rattle.core_model.specs.Lawful.{Bound, Lawful}
-use Rattle.core_model.proofs.Rely.{world, fourth, true_false}
-use Rattle.core_model.specs.Stopper.{is_stopped, linked_rows, passes}
+use Rattle.core_model.proofs.Rely.{world}
+use Rattle.lane_steps.specs.Stopper.{is_stopped, linked_rows, passes}
 
 pub differ : true ≡ false → ⊥
 differ e = cc e
@@ -48,11 +48,11 @@ module _ (z : LaneSizes) (s : State) (L : Lawful z s) (c : ℕ) where
   -- and after the help, where the announcement has left HEAD
   pub goes_back : (h : Help) (b : Back) → (L.ghost.ann ≡ Some h.ann → ⊥) → Holds z (world s L.ghost) c (reads 4 h) → Holds z (world s L.ghost) c (tail_over h.ann) → Each z (world s L.ghost) c (back_facts c (command (s.callers c)) h.ann b)
       → AtPoint z (world s L.ghost) c (stepped (s.callers c) (back_point h b)) (back_point h b)
-  goes_back h back.Own gone reading t rest = record { call = (((rest.0.stands t.position t.is_decided).0, (λ x at_x own. gone (at_x ∙ ap Some (rest.0.only x at_x own))), λ no. absurd (true_false no)), tt); here = (reading, (t, rest)) }
+  goes_back h back.Own gone reading t rest = record { call = tt; here = ((λ x at_x own. gone (at_x ∙ ap Some (rest.0.only x at_x own))), (reading, (t, rest))) }
   goes_back h (back.Enqueue x) gone reading t rest = record { call = rest; here = tt }
   goes_back h back.Dequeue gone reading t rest = record { call = rest; here = tt }
-  goes_back h (back.Batch d) gone reading t rest = record { call = (rest.0, (rest.1.0, (rest.1.1.0, tt))); here = rest.1.1.1 }
-  goes_back h (back.Many d) gone reading t rest = record { call = (rest.1.0, (rest.1.1.0, (rest.1.1.1.0, (rest.0, tt)))); here = (fourth rest.1, tt) }
+  goes_back h (back.Batch d) gone reading t rest = record { call = (rest.0, (rest.1.0, (rest.1.1.0, (rest.1.1.1.0, tt)))); here = rest.1.1.1.1 }
+  goes_back h (back.Many d) gone reading t rest = record { call = (rest.1.0, (rest.1.1.0, (rest.1.1.1.0, (rest.1.1.1.1.0, (rest.0, tt))))); here = (rest.1.1.1.1.1.0, tt) }
 
   -- the walk begins
   module _ (h : Help) (q : Place) (reading : Holds z (world s L.ghost) c (reads 4 h)) (old : Holds z (world s L.ghost) c (old_tail_is h.ann q)) where

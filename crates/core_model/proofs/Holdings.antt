@@ -7,34 +7,41 @@ use Rattle.word_rows.specs.declared.location.AnnField.{AnnField}
 use Rattle.word_rows.specs.declared.location.AnnField.TheVariants as field
 use Rattle.word_rows.specs.declared.content.Content.{Content}
 use Rattle.word_rows.specs.declared.content.Content.TheVariants.{OfOldTail}
-use Rattle.core_model.specs.declared.point.Draft.{Draft}
-use Rattle.core_model.specs.declared.point.Back.{Back}
-use Rattle.core_model.specs.declared.point.Back.TheVariants as back
-use Rattle.core_model.specs.declared.point.Hold.TheVariants.{Held}
-use Rattle.core_model.specs.declared.point.HelpPoint.TheVariants as help
-use Rattle.core_model.specs.declared.point.BatchPoint.{BatchPoint}
-use Rattle.core_model.specs.declared.point.BatchPoint.TheVariants as batch
-use Rattle.core_model.specs.declared.point.EnqueuePoint.TheVariants as enq
-use Rattle.core_model.specs.declared.point.DequeuePoint.TheVariants as deq
-use Rattle.core_model.specs.declared.point.FillPoint.TheVariants as fill
-use Rattle.core_model.specs.declared.point.AnswerPoint.TheVariants as answer
-use Rattle.core_model.specs.declared.point.Point.{Point}
-use Rattle.core_model.specs.declared.point.Plan.{Plan}
-use Rattle.core_model.specs.declared.point.ManyPoint.{ManyPoint}
-use Rattle.core_model.specs.declared.point.ManyPoint.TheVariants as many
-use Rattle.core_model.specs.declared.point.Point.TheVariants.{Idle}
-use Rattle.core_model.specs.declared.point.Point.TheVariants as point
-use Rattle.core_model.specs.LaneSizes.{LaneSizes}
-use Rattle.core_model.specs.Batches.{owner_of}
-use Rattle.core_model.specs.Notices.{field_in}
-use Rattle.core_model.specs.State.{Memory, command, State, write}
-use Rattle.core_model.specs.Act.{is_unknown}
-use Rattle.core_model.specs.Help.{back_facts}
-use Rattle.core_model.specs.Fact.{is_spare, spares}
-use Rattle.core_model.specs.Step.{step_at, next}
+use Rattle.lane_steps.specs.declared.point.Draft.{Draft}
+use Rattle.lane_steps.specs.declared.point.Back.{Back}
+use Rattle.lane_steps.specs.declared.point.Back.TheVariants as back
+use Rattle.lane_steps.specs.declared.point.Hold.TheVariants.{Held}
+use Rattle.lane_steps.specs.declared.point.Guarding.{Guarding}
+use Rattle.lane_steps.specs.declared.point.Guarding.TheVariants as guard
+use Rattle.lane_steps.specs.declared.point.GuardPoint.{GuardPoint}
+use Rattle.lane_steps.specs.declared.point.GuardPoint.TheVariants.{StoreHazard, LoadAgain}
+use Rattle.lane_steps.specs.declared.point.TakePoint.TheVariants.{LoadMark}
+use Rattle.lane_steps.specs.declared.point.ClosePoint.TheVariants as close
+use Rattle.lane_steps.specs.declared.point.HelpPoint.TheVariants as help
+use Rattle.lane_steps.specs.declared.point.BatchPoint.{BatchPoint}
+use Rattle.lane_steps.specs.declared.point.BatchPoint.TheVariants as batch
+use Rattle.lane_steps.specs.declared.point.EnqueuePoint.TheVariants as enq
+use Rattle.lane_steps.specs.declared.point.DequeuePoint.TheVariants as deq
+use Rattle.lane_steps.specs.declared.point.FillPoint.TheVariants as fill
+use Rattle.lane_steps.specs.declared.point.AnswerPoint.TheVariants as answer
+use Rattle.lane_steps.specs.declared.point.Point.{Point}
+use Rattle.lane_steps.specs.declared.point.Plan.{Plan}
+use Rattle.lane_steps.specs.declared.point.ManyPoint.{ManyPoint}
+use Rattle.lane_steps.specs.declared.point.ManyPoint.TheVariants as many
+use Rattle.lane_steps.specs.declared.point.Point.TheVariants.{Idle}
+use Rattle.lane_steps.specs.declared.point.Point.TheVariants as point
+use Rattle.lane_steps.specs.LaneSizes.{LaneSizes}
+use Rattle.lane_steps.specs.Batches.{owner_of}
+use Rattle.lane_steps.specs.Notices.{field_in}
+use Rattle.lane_steps.specs.State.{Memory, command, State, write}
+use Rattle.lane_steps.specs.Act.{is_unknown}
+use Rattle.lane_steps.specs.Guard.{source}
+use Rattle.lane_steps.specs.Help.{back_facts}
+use Rattle.lane_steps.specs.Fact.{is_spare, spares}
+use Rattle.lane_steps.specs.Step.{step_at, next}
 use Rattle.core_model.specs.Facts.{Holds, Each, AtPoint}
 use Rattle.core_model.specs.Ghost.{unused}
-use Rattle.core_model.specs.Held.{HoldsAnn, Untouched, chosen_by, chosen_behind}
+use Rattle.core_model.specs.Held.{HoldsAnn, HoldsRow, Untouched, chosen_by, chosen_behind, chosen_beside}
 use Rattle.core_model.specs.Lawful.{named_by, held_by, Lawful}
 use Rattle.core_model.proofs.Puts.{put_else, put_all}
 use Rattle.core_model.proofs.Rely.{world, one_some}
@@ -50,6 +57,12 @@ module _ (z : LaneSizes) (s : State) (L : Lawful z s) where
   -- the hazard word of a caller that holds an announcement names it
   pub names_its_hold : (e a : ℕ) → HoldsAnn (s.callers e) a → s.memory.ann_hazard e ≡ Some a
   names_its_hold e a is = (L.callers e).guards.word ∙ ap named_by is
+
+  pub row_held_there : (e r : ℕ) → HoldsRow (s.callers e) r → L.ghost.row_held e ≡ Some r
+  row_held_there e r is = (L.callers e).guards_row.holds ∙ ap held_by is
+
+  pub names_its_row : (e r : ℕ) → HoldsRow (s.callers e) r → s.memory.node_hazard e ≡ Some r
+  names_its_row e r is = (L.callers e).guards_row.word ∙ ap named_by is
 
   module _ (c : ℕ) where
     owner_at : (d : Draft) (p : BatchPoint) → AtPoint z (world s L.ghost) c (s.callers c) (point.Batch d p) → owner_of z d.ann ≡ c
@@ -81,11 +94,21 @@ module _ (z : LaneSizes) (s : State) (L : Lawful z s) where
     spare_at d p f = ⊎_elim (λ (x : Holds z (world s L.ghost) c (is_spare d.ann)). x) (λ (fresh : L.ghost.stage d.ann ≡ unused). fresh_spare z s L c d.ann (owner_at d p f) fresh) (is_chosen z s L c d p f)
 
     spare_behind : (x : ℕ) (b : Back) (a : ℕ) → Each z (world s L.ghost) c (back_facts c (command (s.callers c)) x b) → chosen_behind b ≡ Some a → Holds z (world s L.ghost) c (is_spare a)
-    spare_behind x (back.Batch d) a f is = subst (λ (y : ℕ). Holds z (world s L.ghost) c (is_spare y)) (one_some is) (fresh_spare z s L c d.ann f.1.1.1.0.owner f.1.1.1.0.fresh)
-    spare_behind x (back.Many d) a f is = subst (λ (y : Option ℕ). Holds z (world s L.ghost) c (spares y)) is f.1.1.1.1.0
+    spare_behind x (back.Batch d) a f is = subst (λ (y : ℕ). Holds z (world s L.ghost) c (is_spare y)) (one_some is) (fresh_spare z s L c d.ann f.1.1.1.1.0.owner f.1.1.1.1.0.fresh)
+    spare_behind x (back.Many d) a f is = subst (λ (y : Option ℕ). Holds z (world s L.ghost) c (spares y)) is f.1.1.1.1.1.0
     spare_behind x back.Own a f is = absurd (cc is)
     spare_behind x (back.Enqueue i) a f is = absurd (cc is)
     spare_behind x back.Dequeue a f is = absurd (cc is)
+
+    spare_beside : (t : Guarding) (p : GuardPoint) (a : ℕ) → AtPoint z (world s L.ghost) c (s.callers c) (point.Guard t p) → chosen_beside t ≡ Some a → Holds z (world s L.ghost) c (is_spare a)
+    spare_beside (guard.Many d) StoreHazard a f is = subst (λ (y : Option ℕ). Holds z (world s L.ghost) c (spares y)) is f.here.0
+    spare_beside (guard.Many d) LoadAgain a f is = subst (λ (y : Option ℕ). Holds z (world s L.ghost) c (spares y)) is f.here.1.0
+    spare_beside (guard.ManyTail d q) StoreHazard a f is = subst (λ (y : Option ℕ). Holds z (world s L.ghost) c (spares y)) is f.here.0
+    spare_beside (guard.ManyTail d q) LoadAgain a f is = subst (λ (y : Option ℕ). Holds z (world s L.ghost) c (spares y)) is f.here.1.0
+    spare_beside (guard.Help h) p a f is = spare_behind h.ann h.back a f.call.1 is
+    spare_beside (guard.HelpTail h q) p a f is = spare_behind h.ann h.back a f.call.1 is
+    spare_beside (guard.Enqueue i q) p a f is = absurd (cc is)
+    spare_beside (guard.Dequeue q) p a f is = absurd (cc is)
 
     pub chosen_spare : (t : Point) (a : ℕ) → AtPoint z (world s L.ghost) c (s.callers c) t → chosen_by t ≡ Some a → Holds z (world s L.ghost) c (is_spare a)
     chosen_spare (point.Batch d p) a f is = subst (λ (y : ℕ). Holds z (world s L.ghost) c (is_spare y)) (one_some is) (spare_at d p f)
@@ -106,7 +129,9 @@ module _ (z : LaneSizes) (s : State) (L : Lawful z s) where
     chosen_spare (point.Dequeue p) a f is = absurd (cc is)
     chosen_spare (point.Fill n p) a f is = absurd (cc is)
     chosen_spare (point.Answer p) a f is = absurd (cc is)
-    chosen_spare (point.Clear x) a f is = absurd (cc is)
+    chosen_spare (point.Guard t p) a f is = spare_beside t p a f is
+    chosen_spare (point.Take t p) a f is = absurd (cc is)
+    chosen_spare (point.Close x p) a f is = absurd (cc is)
 
     pub none_holds : (e a : ℕ) → chosen_by (s.callers c).point ≡ Some a → HoldsAnn (s.callers e) a → ⊥
     none_holds e a is held = (chosen_spare (s.callers c).point a (known z s L c (s.callers c).point refl) is).unheld e (held_there e a held)
@@ -151,6 +176,10 @@ module _ (z : LaneSizes) (s : State) (L : Lawful z s) where
       left_at (point.Help h (help.RecordTail p)) is = recorded h.ann p (s.memory.old_tail h.ann) refl
       left_at (point.Help h (help.Decide p)) is = recorded h.ann p (s.memory.old_tail h.ann) refl
       left_at (point.Answer (answer.LoadOldTail h)) is = as_it_was _ (write_read s.memory (AnnWord h.ann field.OldTail))
+      left_at (point.Guard t LoadAgain) is = as_it_was _ (write_read s.memory (source t))
+      left_at (point.Guard (guard.Help h) StoreHazard) is = record { notice = refl; old_tail = inl refl }
+      left_at (point.Take t (LoadMark r l)) is = record { notice = refl; old_tail = inl refl }
+      left_at (point.Close x close.ClearNode) is = record { notice = refl; old_tail = inl refl }
       left_at (point.Enqueue i enq.StoreValue) is = record { notice = refl; old_tail = inl refl }
       left_at (point.Dequeue deq.LoadHead) is = record { notice = refl; old_tail = inl refl }
       left_at (point.Fill n (fill.LoadHazard d)) is = record { notice = refl; old_tail = inl refl }

@@ -1,9 +1,6 @@
 -- Each step of a lawful lane names a word of the lane, and no count passes the limit.
-use Rattle.std.proofs.Common.{◌≡◌, ◌≢◌, eqb, ℕ, suc, ◌+◌, ◌*◌, ◌-◌, ◌^◌, ◌<◌, ◌≤◌, Bool, true, false, cond, List, [], ◌∷◌, ◌++◌, length, refl, sym, ap, ◌∙◌, subst, arith}
-use Rattle.std.proofs.lemmas.Bool.{eqb-true}
-use Rattle.std.proofs.lemmas.List.{append-nil, length-append}
-use Rattle.std.proofs.lemmas.List.Elements.{recursion_from_All}
-use Rattle.std.specs.List.{AllByRecursion}
+use Rattle.std.proofs.Common.{◌≡◌, ℕ, suc, ◌+◌, ◌*◌, ◌-◌, ◌^◌, ◌<◌, ◌≤◌, Bool, true, false, cond, List, [], ◌∷◌, ◌++◌, length, refl, inl, inr, sym, ap, ◌∙◌, subst, arith}
+use Rattle.std.proofs.lemmas.List.{append-nil}
 use Rattle.bq_model.specs.declared.group.Group.{Group}
 use Rattle.bq_model.specs.declared.shape.Shape.{Shape}
 use Rattle.bq_model.specs.History.{operations}
@@ -11,50 +8,45 @@ use Rattle.bq_model.specs.Own.{mine}
 use Rattle.word_rows.specs.declared.place.Place.{Place}
 use Rattle.word_rows.specs.declared.location.AnnField.{AnnField}
 use Rattle.word_rows.specs.declared.location.AnnField.TheVariants.{OldHead, OldTail}
-use Rattle.core_model.specs.declared.point.Back.{Back}
-use Rattle.core_model.specs.declared.point.Back.TheVariants as back
-use Rattle.core_model.specs.declared.point.Draft.{Draft}
-use Rattle.core_model.specs.declared.point.Help.{Help}
-use Rattle.core_model.specs.declared.point.HelpPoint.{HelpPoint}
-use Rattle.core_model.specs.declared.point.Point.{Point}
-use Rattle.core_model.specs.declared.point.DequeuePoint.TheVariants as deq
-use Rattle.core_model.specs.declared.point.FillPoint.TheVariants as fill
-use Rattle.core_model.specs.declared.point.BatchPoint.TheVariants as batch
-use Rattle.core_model.specs.declared.point.AnswerPoint.TheVariants as answer
-use Rattle.core_model.specs.declared.point.Point.TheVariants as point
-use Rattle.core_model.specs.declared.point.ManyPoint.TheVariants as many
-use Rattle.core_model.specs.declared.point.EnqueuePoint.TheVariants as enq
-use Rattle.core_model.specs.declared.point.HelpPoint.TheVariants as help
-use Rattle.core_model.specs.LaneSizes.{LaneSizes, lane_sizes}
-use Rattle.excess_count.specs.Counts.{successes_of}
-use Rattle.core_model.specs.Batch.{field_knows, whole_knows}
-use Rattle.core_model.specs.Help.{known_by, back_facts}
-use Rattle.core_model.specs.Batches.{owner_of}
-use Rattle.core_model.specs.State.{State, command, own_group}
-use Rattle.core_model.specs.Fact.{next_is}
-use Rattle.core_model.specs.Step.{target}
-use Rattle.core_model.specs.Facts.{Holds, Each, AtPoint, IsOwn}
-use Rattle.core_model.specs.Ranges.{IsWord, RowsFit, CountsFit}
+use Rattle.lane_steps.specs.declared.point.Draft.{Draft}
+use Rattle.lane_steps.specs.declared.point.Guarding.{Guarding}
+use Rattle.lane_steps.specs.declared.point.Guarding.TheVariants as guard
+use Rattle.lane_steps.specs.declared.point.GuardPoint.TheVariants.{StoreHazard, LoadAgain}
+use Rattle.lane_steps.specs.declared.point.Point.{Point}
+use Rattle.lane_steps.specs.declared.point.Point.TheVariants as point
+use Rattle.lane_steps.specs.declared.point.AnswerPoint.TheVariants as answer
+use Rattle.lane_steps.specs.declared.point.BatchPoint.TheVariants as batch
+use Rattle.lane_steps.specs.declared.point.ClosePoint.TheVariants as close
+use Rattle.lane_steps.specs.declared.point.DequeuePoint.TheVariants as deq
+use Rattle.lane_steps.specs.declared.point.EnqueuePoint.TheVariants as enq
+use Rattle.lane_steps.specs.declared.point.FillPoint.TheVariants as fill
+use Rattle.lane_steps.specs.declared.point.HelpPoint.TheVariants as help
+use Rattle.lane_steps.specs.declared.point.ManyPoint.TheVariants as many
+use Rattle.lane_steps.specs.declared.point.TakePoint.TheVariants as take
+use Rattle.lane_steps.specs.LaneSizes.{LaneSizes, lane_sizes}
+use Rattle.excess_count.specs.Counts.{successes_of, counts_of}
+use Rattle.lane_steps.specs.Batch.{field_knows, whole_knows}
+use Rattle.lane_steps.specs.Batches.{owner_of}
+use Rattle.lane_steps.specs.Take.{is_stopper}
+use Rattle.lane_steps.specs.State.{State, own_group}
+use Rattle.lane_steps.specs.Fact.{next_is, seeks}
+use Rattle.lane_steps.specs.Step.{target}
+use Rattle.lane_steps.specs.Ranges.{IsWord, RowsFit, CountsFit}
+use Rattle.core_model.specs.Facts.{Holds, Each, AtPoint}
+use Rattle.core_model.specs.Rows.{Retires}
 use Rattle.core_model.specs.Lawful.{Lawful}
 use Rattle.core_model.proofs.Groups.{operations_within, length-operations-push}
-use Rattle.core_model.proofs.Rely.{third, world, fourth}
-use Rattle.core_model.proofs.Preserves.{known}
-use Rattle.core_model.proofs.Counting.{enqs_chain}
-use Rattle.core_model.proofs.Stocks.{owner_inside, ann_inside}
 use Rattle.core_model.proofs.HelpWalk.{span_is}
-
--- a caller with a group in a proper history is one of its callers
-mine_known : (callers c : ℕ) (h : List Group) → AllByRecursion (λ (g : Group). g.caller < callers) h → 0 < length (mine h c) → c < callers
-mine_known callers c [] all some = absurd (omega arith)
-mine_known callers c (g ∷ h) all some = by (eqb g.caller c) refl (mine_known callers c h all.1) some where
-  by : (b : Bool) → eqb g.caller c ≡ b → (0 < length (mine h c) → c < callers) → 0 < length (cond b (g ∷ mine h c) (mine h c)) → c < callers
-  by true same rest some = subst (λ (d : ℕ). d < callers) (eqb-true g.caller c same) all.0
-  by false apart rest some = rest some
+use Rattle.core_model.proofs.Known.{caller_known}
+use Rattle.core_model.proofs.Preserves.{known}
+use Rattle.core_model.proofs.Rely.{third, fourth, fifth, world}
+use Rattle.core_model.proofs.RowLists.{first_is_there}
+use Rattle.core_model.proofs.Stocks.{ann_inside}
 
 module _ (z : LaneSizes) (s : State) (L : Lawful z s) where
   -- what a caller has in the history is within its allowance
   own_within : (c : ℕ) → length (operations (mine s.history c)) ≤ z.allowance
-  own_within c = let within = (L.callers c).allowed.within in by (L.ghost.linearized c) (L.callers c).own_groups within where
+  own_within c = let within = (L.callers c).allowed in by (L.ghost.linearized c) (L.callers c).own_groups within where
     by : (b : Bool) → mine s.history c ≡ (s.callers c).mine ++ cond b (own_group c (s.callers c) ∷ []) [] → length (operations (s.callers c).mine) + length (s.callers c).ops ≤ z.allowance
         → length (operations (mine s.history c)) ≤ z.allowance
     by true e within = let total = ap (λ (gs : List Group). length (operations gs)) e ∙ length-operations-push (s.callers c).mine (own_group c (s.callers c)) in omega arith
@@ -62,6 +54,10 @@ module _ (z : LaneSizes) (s : State) (L : Lawful z s) where
 
   pub all_within : length (operations s.history) ≤ z.callers * z.allowance
   all_within = operations_within z.callers z.allowance s.history L.history own_within
+
+  -- a row that a caller seeks is one of the lane
+  sought : (c : ℕ) (b : Bool) (r l : ℕ) → c < z.callers → Holds z (world s L.ghost) c (seeks b r l) → r < z.rows
+  sought c b r l known f = let below = f.2 in subst (λ (y : ℕ). y < z.rows) f.1 (L.sizes.inside b c f.0 known (omega arith))
 
   module _ (fits : z.first + z.callers * z.allowance < 2 ^ 44) where
     -- the count of a row behind which another was linked
@@ -84,45 +80,14 @@ module _ (z : LaneSizes) (s : State) (L : Lawful z s) where
     pub counts_fit : (c : ℕ) → CountsFit (s.callers c).point
     counts_fit c = fits_at c (s.callers c).point (known z s L c (s.callers c).point refl)
 
-  -- a batch counts its rows out
-  rows_at : z.rows ≤ 2 ^ 31 → (c : ℕ) (t : Point) → AtPoint z (world s L.ghost) c (s.callers c) t → RowsFit t
-  rows_at most c (point.Fill n (fill.StoreValue i r v)) f = let own = f.here.1.0 in let at = own.row in let inside = (f.here.0.free i (enqs_chain n.counts i own.inside)).inside in (omega arith, omega arith)
-  rows_at most c (point.Fill n (fill.StoreChain i r q)) f = let own = f.here.1.0 in let at = own.row in let behind = own.next in let more = own.inside in let inside = (f.here.0.free (suc i) (enqs_chain n.counts (suc i) more)).inside in (omega arith, omega arith)
-  rows_at most c _ f = tt
+    -- a call counts on from the rows that it seeks, and from the places that it marks
+    rows_at : z.rows ≤ 2 ^ 31 → (c : ℕ) (t : Point) → AtPoint z (world s L.ghost) c (s.callers c) t → RowsFit t
+    rows_at most c (point.Take t (take.LoadMark r l)) f = let inside = sought c (is_stopper t) r l (caller_known z s L c (s.callers c) (point.Take t (take.LoadMark r l)) (λ e. cc e) f) f.here.0 in omega arith
+    rows_at most c (point.Close a (close.MarkRow q read passed stopped)) f = let owe = f.here.0 in let count = owe.count in let inside = owe.inside in let made = L.list.counts in let all = all_within in omega arith
+    rows_at most c _ f = tt
 
-  pub rows_fit : z.rows ≤ 2 ^ 31 → (c : ℕ) → RowsFit (s.callers c).point
-  rows_fit most c = rows_at most c (s.callers c).point (known z s L c (s.callers c).point refl)
-
-  -- a caller with a group in the history is one of the lane's,
-  linearized_known : (c : ℕ) → L.ghost.linearized c ≡ true → c < z.callers
-  linearized_known c on = mine_known z.callers c s.history (recursion_from_All (λ (g : Group). g.caller < z.callers) s.history L.history.known)
-      (let made = ap length ((L.callers c).own_groups ∙ ap (λ (b : Bool). (s.callers c).mine ++ cond b (own_group c (s.callers c) ∷ []) []) on) in let total = length-append (s.callers c).mine (own_group c (s.callers c) ∷ []) in omega arith)
-
-  own_known : (c : ℕ) (h : Help) (p : HelpPoint) → IsOwn h.back → owner_of z h.ann ≡ c → Holds z (world s L.ghost) c (known_by h p) → c < z.callers
-  own_known c h help.StoreHazard own whose f = owner_inside z h.ann c (f own).0.inside whose
-  own_known c h help.LoadHead own whose f = owner_inside z h.ann c (f own).0.inside whose
-  own_known c h _ own whose f = owner_inside z h.ann c f.inside whose
-
-  help_known : (c : ℕ) (h : Help) (p : HelpPoint) (b : Back) → h.back ≡ b → Holds z (world s L.ghost) c (known_by h p) → Each z (world s L.ghost) c (back_facts c (command (s.callers c)) h.ann b) → c < z.callers
-  help_known c h p back.Own is f k = own_known c h p (subst IsOwn (sym is) tt) k.0.owner f
-  help_known c h p (back.Enqueue x) is f k = k.1.0.1
-  help_known c h p back.Dequeue is f k = k.1.0.1
-  help_known c h p (back.Batch d) is f k = k.1.0.known
-  help_known c h p (back.Many d) is f k = (third k).known
-
-  -- and so is one that runs a command
-  pub caller_known : (c : ℕ) (t : Point) → t ≢ point.Idle → AtPoint z (world s L.ghost) c (s.callers c) t → c < z.callers
-  caller_known c point.Idle runs f = absurd (runs refl)
-  caller_known c (point.Enqueue x enq.StoreValue) runs f = f.call.1.0.1
-  caller_known c (point.Enqueue x (enq.MoveTail p n)) runs f = linearized_known c f.call.0.0
-  caller_known c (point.Enqueue x _) runs f = f.call.1.0.1
-  caller_known c (point.Dequeue p) runs f = f.call.1.0.1
-  caller_known c (point.Fill n p) runs f = f.call.1.0.known
-  caller_known c (point.Batch d p) runs f = f.call.1.0.known
-  caller_known c (point.Many d p) runs f = f.call.1.0.known
-  caller_known c (point.Help h p) runs f = help_known c h p h.back refl f.call.0 f.call.1
-  caller_known c (point.Answer p) runs f = linearized_known c f.call.0.0
-  caller_known c (point.Clear x) runs f = linearized_known c f.call.0.0
+    pub rows_fit : z.rows ≤ 2 ^ 31 → (c : ℕ) → RowsFit (s.callers c).point
+    rows_fit most c = rows_at most c (s.callers c).point (known z s L c (s.callers c).point refl)
 
   -- the announcement whose field is stored is the caller's
   field_owner : (c : ℕ) (d : Draft) (f : AnnField) → Holds z (world s L.ghost) c (field_knows d f) → owner_of z d.ann ≡ c
@@ -133,22 +98,38 @@ module _ (z : LaneSizes) (s : State) (L : Lawful z s) where
   whole_owner c d OldHead k = k.0.owner
   whole_owner c d _ k = k.0.owner
 
+  -- its own hazard word, and HEAD or TAIL
+  hazard_word : (c : ℕ) (t : Guarding) → c < z.callers → IsWord z.rows z.callers (z.callers * z.callers) (target c (point.Guard t StoreHazard))
+  hazard_word c (guard.Help h) inside = inside
+  hazard_word c (guard.Enqueue x p) inside = inside
+  hazard_word c (guard.Dequeue p) inside = inside
+  hazard_word c (guard.Many d) inside = inside
+  hazard_word c (guard.ManyTail d p) inside = inside
+  hazard_word c (guard.HelpTail h p) inside = inside
+
+  source_word : (c : ℕ) (t : Guarding) → IsWord z.rows z.callers (z.callers * z.callers) (target c (point.Guard t LoadAgain))
+  source_word c (guard.Help h) = tt
+  source_word c (guard.Enqueue x p) = tt
+  source_word c (guard.Dequeue p) = tt
+  source_word c (guard.Many d) = tt
+  source_word c (guard.ManyTail d p) = tt
+  source_word c (guard.HelpTail h p) = tt
+
   word_at : (c : ℕ) (t : Point) → AtPoint z (world s L.ghost) c (s.callers c) t → IsWord z.rows z.callers (z.callers * z.callers) (target c t)
-  word_at c (point.Enqueue x enq.StoreValue) f = (third f.call).0.inside
+  word_at c (point.Enqueue x enq.StoreValue) f = f.call.1.1.0.0.free.inside
   word_at c (point.Enqueue x (enq.LoadLink p)) f = f.here.0.inside
   word_at c (point.Enqueue x (enq.LinkSingle p)) f = f.here.0.inside
   word_at c (point.Dequeue (deq.LoadLink p)) f = f.here.0.inside
   word_at c (point.Dequeue (deq.LoadValue p n)) f = f.here.1.0.inside
-  word_at c (point.Fill n (fill.StoreValue i r v)) f = let own = f.here.1.0 in subst (λ (y : ℕ). y < z.rows) (sym own.row) (f.here.0.free i (enqs_chain n.counts i own.inside)).inside
-  word_at c (point.Fill n (fill.StoreChain i r q)) f = let own = f.here.1.0 in let next = own.inside in subst (λ (y : ℕ). y < z.rows) (sym own.row) (f.here.0.free i (enqs_chain n.counts i (omega arith))).inside
-  word_at c (point.Fill n (fill.LoadHazard e)) f = (third f.here).0
+  word_at c (point.Fill n (fill.StoreValue r v)) f = (fourth f.here).0.free.inside
+  word_at c (point.Fill n (fill.StoreChain i r q)) f = let next = (fourth f.here).inside in subst (λ (y : ℕ). y < z.rows) (sym (fourth f.here).row) (f.here.1.0.taken i (omega arith)).free.inside
+  word_at c (point.Fill n (fill.LoadHazard e)) f = (fifth f.here).0
   word_at c (point.Batch d (batch.StoreField x)) f = ann_inside z d.ann c f.call.1.0.known (field_owner c d x f.here.0)
   word_at c (point.Batch d (batch.StoreAll x)) f = ann_inside z d.ann c f.call.1.0.known (whole_owner c d x f.here.1)
   word_at c (point.Many d many.LoadDummy) f = f.here.1.0.inside
   word_at c (point.Many d (many.LoadLink r l)) f = f.here.1.0.inside
   word_at c (point.Many d (many.LoadValue r l)) f = f.here.1.0.inside
   word_at c (point.Many d (many.LoadBehind p)) f = f.here.1.0.inside
-  word_at c (point.Help h help.StoreHazard) f = caller_known c (point.Help h help.StoreHazard) (λ e. cc e) f
   word_at c (point.Help h help.LoadOldHead) f = f.call.0.inside
   word_at c (point.Help h help.LoadFirst) f = f.call.0.inside
   word_at c (point.Help h help.LoadLast) f = f.call.0.inside
@@ -159,10 +140,27 @@ module _ (z : LaneSizes) (s : State) (L : Lawful z s) where
   word_at c (point.Help h (help.Decide p)) f = f.call.0.inside
   word_at c (point.Help h (help.RecordTail p)) f = f.call.0.inside
   word_at c (point.Help h (help.LoadWalk m r l)) f = f.here.0.inside
-  word_at c (point.Answer (answer.LoadOldTail h)) f = f.here.0.inside
-  word_at c (point.Answer (answer.LoadLink m r l)) f = let rd = f.here.0 in subst (λ (y : ℕ). y < z.rows) rd.last_row (L.list.rows.inside (rd.linearized.dummy + rd.read) (rd.linearized.rows rd.read (let e = rd.left in let all = ap (successes_of (s.memory.notice rd.ann).counts) rd.queued in omega arith)).inside)
-  word_at c (point.Answer (answer.LoadValue m r l)) f = let rd = f.here.0 in let R = rd.linearized in let e = rd.left in let all = ap (successes_of (s.memory.notice rd.ann).counts) rd.queued in let inside = (R.rows (suc rd.read) (omega arith)).inside in subst (λ (y : ℕ). y < z.rows) rd.next_row (L.list.rows.inside (suc (R.dummy + rd.read)) (omega arith))
-  word_at c (point.Clear x) f = caller_known c (point.Clear x) (λ e. cc e) f
+  word_at c (point.Answer (answer.LoadOldTail h)) f = f.here.1.0.inside
+  word_at c (point.Answer (answer.LoadLink b r l)) f = let rd = third f.here in let R = rd.linearized in let within = R.inside in let e = rd.left in
+      let all : successes_of (s.memory.notice rd.ann).counts (rd.position - R.dummy) ≡ successes_of (counts_of (s.callers c).ops) b.queued = (λ k. successes_of (R.counts k) (sym rd.queued k)) in
+      subst (λ (y : ℕ). y < z.rows) rd.last_row (L.list.rows.inside (R.dummy + rd.read) (omega arith))
+  word_at c (point.Answer (answer.LoadValue b r l)) f = let rd = third f.here in let R = rd.linearized in let within = R.inside in let e = rd.left in
+      let all : successes_of (s.memory.notice rd.ann).counts (rd.position - R.dummy) ≡ successes_of (counts_of (s.callers c).ops) b.queued = (λ k. successes_of (R.counts k) (sym rd.queued k)) in
+      subst (λ (y : ℕ). y < z.rows) rd.next_row (L.list.rows.inside (suc (R.dummy + rd.read)) (omega arith))
+  word_at c (point.Take t (take.LoadMark r l)) f = sought c (is_stopper t) r l (caller_known z s L c (s.callers c) (point.Take t (take.LoadMark r l)) (λ e. cc e) f) f.here.0
+  word_at c (point.Take t (take.ClearMark r)) f = f.here.0.0.inside
+  word_at c (point.Take t (take.ClearLink r)) f = f.here.0.free.inside
+  word_at c (point.Guard t StoreHazard) f = hazard_word c t (caller_known z s L c (s.callers c) (point.Guard t StoreHazard) (λ e. cc e) f)
+  word_at c (point.Guard t LoadAgain) f = source_word c t
+  word_at c (point.Close a (close.MarkRow q read passed stopped)) f = let owe = f.here.0 in let inside = owe.inside in subst (λ (y : ℕ). y < z.rows) owe.row (L.list.rows.inside owe.position (omega arith))
+  word_at c (point.Close a (close.MarkLoose r)) f = f.here.0.inside
+  word_at c (point.Close a close.ClearNode) f = caller_known z s L c (s.callers c) (point.Close a close.ClearNode) (λ e. cc e) f
+  word_at c (point.Close a close.ClearAnn) f = caller_known z s L c (s.callers c) (point.Close a close.ClearAnn) (λ e. cc e) f
+  word_at c (point.Close a (close.LoadHazard d)) f = third f.here
+  word_at c (point.Close a (close.MarkFree r)) f = by ((L.callers c).knows.retired.each r (first_is_there (s.callers c).named (s.callers c).retired r f.here.1.0).0) where
+    by : Retires z (world s L.ghost) c r → r < z.rows
+    by (inl (i, x)) = let there = L.list.rows.placed r i x.spot in subst (λ (y : ℕ). y < z.rows) there.1 (L.list.rows.inside i there.0)
+    by (inr l) = l.inside
   word_at c _ f = tt
 
   pub is_word : (c : ℕ) → IsWord z.rows z.callers (z.callers * z.callers) (target c (s.callers c).point)

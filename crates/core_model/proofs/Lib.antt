@@ -4,13 +4,27 @@ pub mod Memories
 pub mod Groups
 pub mod Counts
 pub mod Counting
+pub mod Spans
 pub mod Rely
+pub mod Lists
+pub mod RowsStable
 pub mod SharedFacts
 pub mod StoredAgain
 pub mod Stable
+pub mod OwnStable
+pub mod LooseRows
+pub mod Stocks
+pub mod Known
+pub mod Follows
+pub mod Callers
 pub mod Preserves
+pub mod Owing
+pub mod RowLists
+pub mod Closes
+pub mod Losses
 pub mod Joins
 pub mod Announces
+pub mod RowStores
 pub mod Sames
 pub mod Lookups
 pub mod Fitting
@@ -20,13 +34,24 @@ pub mod EnqueueSteps
 pub mod HeadMoves
 pub mod DequeueSteps
 pub mod Opens
-pub mod Stocks
+pub mod Scans
+pub mod Filled
 pub mod FillScans
 pub mod FillRows
 pub mod BatchRows
+pub mod Forgets
 pub mod Reuses
 pub mod BatchSteps
 pub mod HelpWalk
+pub mod Reholds
+pub mod Guards
+pub mod CloseSteps
+pub mod Frees
+pub mod LooseMarks
+pub mod RowMarks
+pub mod MarkSteps
+pub mod CallEnds
+pub mod Takes
 pub mod HelpLoads
 pub mod HelpMoves
 pub mod Runs
@@ -38,7 +63,6 @@ pub mod Decides
 pub mod AnswerSteps
 pub mod ManyMoves
 pub mod ManySteps
-pub mod Holds
 pub mod HelpSteps
 pub mod InRange
 pub mod Steps
@@ -46,16 +70,23 @@ pub mod Shows
 pub mod Alone
 pub mod Holdings
 pub mod HoldSteps
+pub mod HeldRows
+pub mod Uses
 pub mod Ends
-pub mod FirstPoints
 pub mod Finds
 pub mod Standings
 pub mod Notes
 pub mod Tables
 pub mod ReadValues
+pub mod Unheld
+pub mod FewFor
+pub mod FewAfter
+pub mod FewSteps
 pub mod Coding
+pub mod CodedCourses
 pub mod CodedSteps
 pub mod CodedStarts
 mod Trace
 mod ManyTrace
 mod HoldTrace
+mod RowTrace

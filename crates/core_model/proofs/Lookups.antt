@@ -1,16 +1,19 @@
 -- What a load finds in a lawful lane.
-use Rattle.std.proofs.Common.{◌≡◌, ◌≢◌, ℕ, suc, ◌+◌, ◌<◌, ◌≤◌, Bool, true, false, sym, refl, ap, ◌∙◌, subst, arith, Option, Some, None}
+use Rattle.std.proofs.Common.{◌≡◌, ◌≢◌, ℕ, suc, ◌+◌, ◌<◌, ◌≤◌, Bool, true, false, sym, refl, ap, ◌∙◌, subst, arith, eqb, eq-eqb, Option, Some, None}
+use Rattle.std.proofs.lemmas.Bool.{and_from}
 use mathlib.Core.Logic.{dite}
 use native.Mathlib.Decide.{dec_le}
 use Rattle.word_rows.specs.declared.place.Place.{Place}
 use Rattle.word_rows.specs.declared.head_word.HeadWord.{HeadWord}
 use Rattle.word_rows.specs.declared.head_word.HeadWord.TheVariants.{Node, Ann}
 use Rattle.word_rows.specs.declared.link_word.LinkWord.TheVariants.{Nil}
-use Rattle.core_model.specs.LaneSizes.{LaneSizes}
-use Rattle.core_model.specs.State.{State}
-use Rattle.core_model.specs.Fact.{linked, next_is}
+use Rattle.lane_steps.specs.declared.point.Help.{Help}
+use Rattle.lane_steps.specs.LaneSizes.{LaneSizes}
+use Rattle.lane_steps.specs.State.{State}
+use Rattle.lane_steps.specs.Act.{is_ann}
+use Rattle.lane_steps.specs.Fact.{linked, next_is}
 use Rattle.core_model.specs.Facts.{Holds}
-use Rattle.core_model.specs.Ghost.{Ghost, positions, joint, at}
+use Rattle.core_model.specs.Ghost.{Ghost, positions, joint, at, On}
 use Rattle.core_model.specs.Lawful.{head_word, Lawful}
 use Rattle.core_model.proofs.Rely.{world}
 
@@ -34,11 +37,9 @@ module _ (z : LaneSizes) (s : State) (L : Lawful z s) (c : ℕ) where
   G = L.ghost
 
   -- a row of the list, by its position
-  pub on_list : (p : Place) (i : ℕ) → p.count ≡ z.first + i → p.row ≡ L.ghost.path i → L.ghost.head ≤ i → i < positions L.ghost → Holds z (world s L.ghost) c (linked p)
-  on_list p i count row from below = let is : G.path i ≡ p.row = sym row in record {
-    position = i;
-    count = count;
-    on = record {
+  pub on_list : (p : Place) (i : ℕ) → p.count ≡ z.first + i → p.row ≡ L.ghost.path i → L.ghost.head ≤ i → i < positions L.ghost → On (world s L.ghost) i p.row × (p.row < z.rows)
+  on_list p i count row from below = let is : G.path i ≡ p.row = sym row in (
+    record {
       inside = below;
       spot = subst (λ (r : ℕ). G.spot r ≡ Some i) is (L.list.rows.spots i from below);
       row = is;
@@ -46,9 +47,9 @@ module _ (z : LaneSizes) (s : State) (L : Lawful z s) (c : ℕ) where
         (λ e. subst (λ (r : ℕ). s.memory.link r ≡ Nil) is (let same : G.head + G.rest ≡ i = omega arith in subst (λ (j : ℕ). s.memory.link (G.path j) ≡ Nil) same L.list.rows.last)),
         λ b. subst (λ (r : ℕ). s.memory.link r ≡ joint (G.chained i) (G.path (suc i))) is (L.list.rows.joined i from (omega arith)),
       );
-    };
-    inside = subst (λ (r : ℕ). r < z.rows) is (L.list.rows.inside i below);
-  }
+    },
+    subst (λ (r : ℕ). r < z.rows) is (L.list.rows.inside i below),
+  )
 
   -- a linked row whose link is Nil is the last one
   pub is_last : (p : Place) → (f : Holds z (world s L.ghost) c (linked p)) → s.memory.link p.row ≡ Nil → f.position ≡ L.ghost.head + L.ghost.rest
@@ -92,3 +93,10 @@ module _ (z : LaneSizes) (s : State) (L : Lawful z s) (c : ℕ) where
     by : (x : Option ℕ) → Ann a n ≡ head_word z.first L.ghost.path L.ghost.head x → x ≡ Some a
     by None e = absurd (cc e)
     by (Some x) e = ap Some (sym (same_ann a x n (z.first + L.ghost.head) e))
+
+  -- HEAD isn't the announcement with this count: that doesn't stand, where its old head is known
+  pub not_there : (h : Help) (x : HeadWord) → s.memory.head ≡ x → is_ann x h.ann h.old_head.count ≡ false → (s.memory.notice h.ann).old_head ≡ h.old_head → L.ghost.ann ≡ Some h.ann → ⊥
+  not_there h x at_x apart old at_head = differ (sym (ap (λ (y : HeadWord). is_ann y h.ann h.old_head.count) (sym at_x ∙ (L.list.head.named ∙ ap (head_word z.first L.ghost.path L.ghost.head) at_head)) ∙
+      and_from (eqb h.ann h.ann) (eqb (z.first + L.ghost.head) h.old_head.count) (eq-eqb h.ann h.ann refl) (eq-eqb (z.first + L.ghost.head) h.old_head.count (ap (λ (p : Place). p.count) (sym (L.announced.old_head h.ann at_head) ∙ old)))) ∙ apart) where
+        differ : true ≡ false → ⊥
+        differ e = cc e

@@ -7,17 +7,19 @@ use Rattle.bq_model.specs.declared.group.Group.{Group}
 use Rattle.excess_count.specs.Excess.{excess_of}
 use Rattle.word_rows.specs.declared.head_word.HeadWord.TheVariants.{Node}
 use Rattle.word_rows.specs.declared.link_word.LinkWord.TheVariants.{Chain, Single}
-use Rattle.core_model.specs.declared.point.Point.{Point}
-use Rattle.core_model.specs.declared.point.Point.TheVariants.{Idle}
-use Rattle.core_model.specs.declared.point.Point.TheVariants as point
-use Rattle.core_model.specs.declared.point.BatchPoint.TheVariants as batch
-use Rattle.core_model.specs.declared.point.ManyPoint.TheVariants as many
-use Rattle.core_model.specs.declared.point.HelpPoint.TheVariants as help
-use Rattle.core_model.specs.LaneSizes.{LaneSizes}
-use Rattle.core_model.specs.Notices.{place}
-use Rattle.core_model.specs.State.{State}
-use Rattle.core_model.specs.Step.{next}
-use Rattle.core_model.specs.Start.{start, opening}
+use Rattle.lane_steps.specs.declared.point.Point.{Point}
+use Rattle.lane_steps.specs.declared.point.Point.TheVariants.{Idle}
+use Rattle.lane_steps.specs.declared.point.Point.TheVariants as point
+use Rattle.lane_steps.specs.declared.point.BatchPoint.TheVariants as batch
+use Rattle.lane_steps.specs.declared.point.Closing.TheVariants.{Batch}
+use Rattle.lane_steps.specs.declared.point.ClosePoint.TheVariants as close
+use Rattle.lane_steps.specs.declared.point.ManyPoint.TheVariants as many
+use Rattle.lane_steps.specs.declared.point.HelpPoint.TheVariants as help
+use Rattle.lane_steps.specs.LaneSizes.{LaneSizes}
+use Rattle.lane_steps.specs.Notices.{place}
+use Rattle.lane_steps.specs.State.{State}
+use Rattle.lane_steps.specs.Step.{next}
+use Rattle.lane_steps.specs.Start.{start, opening}
 use Rattle.core_model.proofs.Trace.{steps, until}
 
 -- n callers with eight item rows and four stoppers each
@@ -46,7 +48,7 @@ passes _ = false
 
 -- caller c runs these operations to the end
 abbrev runs : LaneSizes → ℕ → List Op → State → State
-runs z c ops s = steps z c 60 (start z s c ops)
+runs z c ops s = steps z c 90 (start z s c ops)
 
 abbrev group : ℕ → ℕ → List Op → Group
 group c batch ops = record { caller = c; batch = batch; ops = ops }
@@ -60,10 +62,10 @@ first_groups = group 0 0 (Enq 1 ∷ []) ∷ group 0 1 (Enq 2 ∷ []) ∷ []
 
 -- the value 9 comes between the walk and the announcement, so the batch is decided and no stopper is linked
 abbrev at_install : State
-at_install = until installs (lane 2) 0 60 (start (lane 2) two_there 0 (Deq ∷ Deq ∷ Deq ∷ []))
+at_install = until installs (lane 2) 0 90 (start (lane 2) two_there 0 (Deq ∷ Deq ∷ Deq ∷ []))
 
 abbrev late_value : State
-late_value = steps (lane 2) 0 60 (runs (lane 2) 1 (Enq 9 ∷ []) at_install)
+late_value = steps (lane 2) 0 90 (runs (lane 2) 1 (Enq 9 ∷ []) at_install)
 
 late_item : (late_value.history ≡ first_groups ++ group 1 0 (Enq 9 ∷ []) ∷ group 0 2 (Deq ∷ Deq ∷ Deq ∷ []) ∷ []) × ((late_value.callers 0).answers ≡ Got 1 ∷ Got 2 ∷ Got 9 ∷ [])
     × ((late_value.callers 0).point ≡ Idle) × (late_value.memory.head ≡ Node (place 13 3)) × (late_value.memory.tail ≡ place 13 3)
@@ -71,7 +73,7 @@ unfolding steps until installs next excess_of
 late_item = (refl, refl, refl, refl, refl)
 
 -- there is a step that decides
-deciding : decides ((until decides (lane 2) 0 60 (runs (lane 2) 1 (Enq 9 ∷ []) at_install)).callers 0).point ≡ true
+deciding : decides ((until decides (lane 2) 0 90 (runs (lane 2) 1 (Enq 9 ∷ []) at_install)).callers 0).point ≡ true
 unfolding steps until installs decides next excess_of
 deciding = refl
 
@@ -90,24 +92,40 @@ behind_stopper : (after_stopper.history ≡ first_groups ++ group 0 2 (Deq ∷ D
 unfolding steps next excess_of
 behind_stopper = (refl, refl)
 
--- a walk that finds all its values moves the head once
+-- a walk that finds all its values moves the head once, and then marks the three rows: the first one was passed, the next one
+-- passed and read, the last one read
 abbrev at_move : State
-at_move = until moves (lane 2) 0 60 (start (lane 2) two_there 0 (Deq ∷ Deq ∷ []))
+at_move = until moves (lane 2) 0 90 (start (lane 2) two_there 0 (Deq ∷ Deq ∷ []))
 
-at_once : (moves (at_move.callers 0).point ≡ true) × (((next (lane 2) at_move 0).callers 0).answers ≡ Got 1 ∷ Got 2 ∷ []) × (((next (lane 2) at_move 0).callers 0).point ≡ Idle) × ((next (lane 2) at_move 0).memory.head ≡ Node (place 2 2))
+abbrev moved : State
+moved = next (lane 2) at_move 0
+
+at_once : (moves (at_move.callers 0).point ≡ true) × ((moved.callers 0).point ≡ point.Close (Batch 2) (close.MarkRow (place 0 0) false true false)) × (moved.history ≡ first_groups ++ group 0 2 (Deq ∷ Deq ∷ []) ∷ []) × (moved.memory.head ≡ Node (place 2 2))
 unfolding steps until moves next excess_of
 at_once = (refl, refl, refl, refl)
 
--- on the empty queue all answers are Empty after two loads
-none_there : (((steps (lane 2) 0 2 (start (lane 2) (opening (lane 2)) 0 (Deq ∷ Deq ∷ []))).callers 0).answers ≡ Empty ∷ Empty ∷ []) × (((steps (lane 2) 0 2 (start (lane 2) (opening (lane 2)) 0 (Deq ∷ Deq ∷ []))).callers 0).point ≡ Idle)
+-- eight steps more: three marks, its hazard word, two hazard words loaded, and two rows free
+abbrev all_marked : State
+all_marked = steps (lane 2) 0 8 moved
+
+marked : ((all_marked.callers 0).answers ≡ Got 1 ∷ Got 2 ∷ []) × ((all_marked.callers 0).point ≡ Idle) × ((all_marked.callers 0).retired ≡ []) × ((all_marked.memory.mark 0).free ≡ true) × ((all_marked.memory.mark 1).free ≡ true)
+    × ((all_marked.memory.mark 2).free ≡ false) × ((all_marked.memory.mark 2).read ≡ true)
+unfolding steps until moves next excess_of
+marked = (refl, refl, refl, refl, refl, refl, refl)
+
+-- on the empty queue all answers are Empty after four steps, and it clears its hazard word
+abbrev empty : State
+empty = steps (lane 2) 0 5 (start (lane 2) (opening (lane 2)) 0 (Deq ∷ Deq ∷ []))
+
+none_there : ((empty.callers 0).answers ≡ Empty ∷ Empty ∷ []) × ((empty.callers 0).point ≡ Idle)
 unfolding steps next
 none_there = (refl, refl)
 
 -- a tail that lags is moved, and the walk begins again
 abbrev lagging : State
-lagging = steps (lane 2) 1 4 (start (lane 2) (runs (lane 2) 1 (Enq 3 ∷ []) (opening (lane 2))) 1 (Enq 4 ∷ []))
+lagging = steps (lane 2) 1 10 (start (lane 2) (runs (lane 2) 1 (Enq 3 ∷ []) (opening (lane 2))) 1 (Enq 4 ∷ []))
 
-lag_passed : (passes ((until passes (lane 2) 0 60 (start (lane 2) lagging 0 (Deq ∷ Deq ∷ []))).callers 0).point ≡ true) × (((runs (lane 2) 0 (Deq ∷ Deq ∷ []) lagging).callers 0).answers ≡ Got 3 ∷ Got 4 ∷ [])
+lag_passed : (passes ((until passes (lane 2) 0 90 (start (lane 2) lagging 0 (Deq ∷ Deq ∷ []))).callers 0).point ≡ true) × (((runs (lane 2) 0 (Deq ∷ Deq ∷ []) lagging).callers 0).answers ≡ Got 3 ∷ Got 4 ∷ [])
 unfolding steps until passes next excess_of
 lag_passed = (refl, refl)
 
@@ -122,7 +140,7 @@ helper_decides : (helped.history ≡ first_groups ++ group 1 0 (Enq 9 ∷ []) �
 unfolding steps until installs next excess_of
 helper_decides = (refl, refl, refl)
 
-owner_reads : ((steps (lane 2) 0 60 helped).callers 0).answers ≡ Got 1 ∷ Got 2 ∷ Got 9 ∷ []
+owner_reads : ((steps (lane 2) 0 90 helped).callers 0).answers ≡ Got 1 ∷ Got 2 ∷ Got 9 ∷ []
 unfolding steps until installs next excess_of
 owner_reads = refl
 
@@ -134,20 +152,20 @@ helper_stops : (helped_stopper.history ≡ first_groups ++ group 0 2 (Deq ∷ De
 unfolding steps until installs next excess_of
 helper_stops = (refl, refl)
 
-owner_finds : ((steps (lane 2) 0 60 helped_stopper).callers 0).answers ≡ Got 1 ∷ Got 2 ∷ Empty ∷ []
+owner_finds : ((steps (lane 2) 0 90 helped_stopper).callers 0).answers ≡ Got 1 ∷ Got 2 ∷ Empty ∷ []
 unfolding steps until installs next excess_of
 owner_finds = refl
 
 -- Helpers come late. Caller 0 of three announces three dequeues on two values, and stops.
 abbrev three_announced : State
-three_announced = next (lane 3) (until installs (lane 3) 0 60 (start (lane 3) (runs (lane 3) 0 (Enq 2 ∷ []) (runs (lane 3) 0 (Enq 1 ∷ []) (opening (lane 3)))) 0 (Deq ∷ Deq ∷ Deq ∷ []))) 0
+three_announced = next (lane 3) (until installs (lane 3) 0 90 (start (lane 3) (runs (lane 3) 0 (Enq 2 ∷ []) (runs (lane 3) 0 (Enq 1 ∷ []) (opening (lane 3)))) 0 (Deq ∷ Deq ∷ Deq ∷ []))) 0
 
 -- caller 1 is about to link its stopper as caller 2 brings a value, and the owner decides first
 abbrev about_to_link : State
-about_to_link = until links (lane 3) 1 60 (start (lane 3) three_announced 1 (Deq ∷ []))
+about_to_link = until links (lane 3) 1 90 (start (lane 3) three_announced 1 (Deq ∷ []))
 
 abbrev decided_first : State
-decided_first = steps (lane 3) 0 60 (runs (lane 3) 2 (Enq 9 ∷ []) about_to_link)
+decided_first = steps (lane 3) 0 90 (runs (lane 3) 2 (Enq 9 ∷ []) about_to_link)
 
 abbrev decided_groups : List Group
 decided_groups = first_groups ++ group 2 0 (Enq 9 ∷ []) ∷ group 0 2 (Deq ∷ Deq ∷ Deq ∷ []) ∷ []
@@ -165,18 +183,18 @@ late_stopper : ((next (lane 3) decided_first 1).history ≡ decided_groups) × (
 unfolding steps until installs links next excess_of
 late_stopper = (refl, refl)
 
-late_helper : ((steps (lane 3) 1 60 decided_first).history ≡ decided_groups ++ group 1 0 (Deq ∷ []) ∷ []) × (((steps (lane 3) 1 60 decided_first).callers 1).answers ≡ Empty ∷ [])
+late_helper : ((steps (lane 3) 1 90 decided_first).history ≡ decided_groups ++ group 1 0 (Deq ∷ []) ∷ []) × (((steps (lane 3) 1 90 decided_first).callers 1).answers ≡ Empty ∷ [])
 unfolding steps until installs links next excess_of
 late_helper = (refl, refl)
 
 -- caller 1 is about to decide as the owner does it
 abbrev about_to_decide : State
-about_to_decide = until decides (lane 3) 1 60 (start (lane 3) (runs (lane 3) 2 (Enq 9 ∷ []) three_announced) 1 (Deq ∷ []))
+about_to_decide = until decides (lane 3) 1 90 (start (lane 3) (runs (lane 3) 2 (Enq 9 ∷ []) three_announced) 1 (Deq ∷ []))
 
 waits_to_decide : decides (about_to_decide.callers 1).point ≡ true
 unfolding steps until installs decides next excess_of
 waits_to_decide = refl
 
-late_decide : let s : State = next (lane 3) (steps (lane 3) 0 60 about_to_decide) 1 in (s.history ≡ decided_groups) × (s.memory.old_tail 0 ≡ Some (place 25 3)) × ((s.callers 0).answers ≡ Got 1 ∷ Got 2 ∷ Got 9 ∷ [])
+late_decide : let s : State = next (lane 3) (steps (lane 3) 0 90 about_to_decide) 1 in (s.history ≡ decided_groups) × (s.memory.old_tail 0 ≡ Some (place 25 3)) × ((s.callers 0).answers ≡ Got 1 ∷ Got 2 ∷ Got 9 ∷ [])
 unfolding steps until installs decides next excess_of
 late_decide = (refl, refl, refl)

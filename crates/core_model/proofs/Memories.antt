@@ -7,14 +7,14 @@ use Rattle.word_rows.specs.declared.head_word.HeadWord.TheVariants.{Node}
 use Rattle.word_rows.specs.declared.location.AnnField.{AnnField}
 use Rattle.word_rows.specs.declared.location.AnnField.TheVariants.{OldHead, OldTail, First, Last, Counts, BatchNo, Order0, Order1, Order2, Order3}
 use Rattle.word_rows.specs.declared.location.Location.{Location}
-use Rattle.word_rows.specs.declared.location.Location.TheVariants.{Head, Tail, Link, Value, AnnWord, AnnHazard}
+use Rattle.word_rows.specs.declared.location.Location.TheVariants.{Head, Tail, Link, Value, Mark, NodeHazard, AnnWord, AnnHazard}
 use Rattle.word_rows.specs.declared.content.Content.{Content}
-use Rattle.word_rows.specs.declared.content.Content.TheVariants.{OfHead, OfTail, OfLink, OfValue, OfOldTail, OfChainEnd, OfCounts, OfBatchNo, OfOrder, OfAnnHazard}
+use Rattle.word_rows.specs.declared.content.Content.TheVariants.{OfHead, OfTail, OfLink, OfValue, OfOldTail, OfChainEnd, OfCounts, OfBatchNo, OfOrder, OfMark, OfNodeHazard, OfAnnHazard}
 use Rattle.word_rows.specs.Memory.{Writes}
-use Rattle.core_model.specs.declared.point.Notice.{Notice}
-use Rattle.core_model.specs.Fits.{IsHeld}
-use Rattle.core_model.specs.Notices.{with_field}
-use Rattle.core_model.specs.State.{Memory, read, field_of, read_field, write, write_field, link_in, value_in, old_tail_in, hazard_in}
+use Rattle.lane_steps.specs.declared.point.Notice.{Notice}
+use Rattle.lane_steps.specs.Fits.{IsHeld}
+use Rattle.lane_steps.specs.Notices.{with_field}
+use Rattle.lane_steps.specs.State.{Memory, read, field_of, read_field, write, write_field, link_in, value_in, old_tail_in, hazard_in, mark_in}
 use Rattle.core_model.proofs.Puts.{put_here, put_else}
 
 -- what is stored in a field is found there
@@ -36,6 +36,8 @@ written_here m Head (OfHead y) h = refl
 written_here m Tail (OfTail y) h = refl
 written_here m (Link r) (OfLink y) h = ap OfLink (put_here m.link r y)
 written_here m (Value r) (OfValue y) h = ap OfValue (put_here m.value r y)
+written_here m (Mark r) (OfMark y) h = ap OfMark (put_here m.mark r y)
+written_here m (NodeHazard c) (OfNodeHazard y) h = ap OfNodeHazard (put_here m.node_hazard c y)
 written_here m (AnnHazard c) (OfAnnHazard y) h = ap OfAnnHazard (put_here m.ann_hazard c y)
 written_here m (AnnWord a OldTail) (OfOldTail y) h = ap OfOldTail (put_here m.old_tail a y)
 written_here m (AnnWord a OldHead) x h = ap (λ (n : Notice). field_of (m.old_tail a) n OldHead) (put_here m.notice a (with_field (m.notice a) OldHead x)) ∙ field_written (m.old_tail a) (m.notice a) a OldHead x (λ e. cc e) h
@@ -109,6 +111,10 @@ written_elsewhere m (Link r) (Link q) x other = ap OfLink (put_else m.link r (li
 written_elsewhere m (Link r) _ x other = refl
 written_elsewhere m (Value r) (Value q) x other = ap OfValue (put_else m.value r (value_in x) q (λ e. other (ap Value e)))
 written_elsewhere m (Value r) _ x other = refl
+written_elsewhere m (Mark r) (Mark q) x other = ap OfMark (put_else m.mark r (mark_in x) q (λ e. other (ap Mark e)))
+written_elsewhere m (Mark r) _ x other = refl
+written_elsewhere m (NodeHazard c) (NodeHazard d) x other = ap OfNodeHazard (put_else m.node_hazard c (hazard_in x) d (λ e. other (ap NodeHazard e)))
+written_elsewhere m (NodeHazard c) _ x other = refl
 written_elsewhere m (AnnHazard c) (AnnHazard d) x other = ap OfAnnHazard (put_else m.ann_hazard c (hazard_in x) d (λ e. other (ap AnnHazard e)))
 written_elsewhere m (AnnHazard c) _ x other = refl
 written_elsewhere m (AnnWord b g) (AnnWord a f) x other = dite (ℕ_discrete a b)
@@ -124,7 +130,6 @@ written_elsewhere m (AnnWord b Order0) _ x other = refl
 written_elsewhere m (AnnWord b Order1) _ x other = refl
 written_elsewhere m (AnnWord b Order2) _ x other = refl
 written_elsewhere m (AnnWord b Order3) _ x other = refl
-written_elsewhere m _ k x other = refl
 
 pub writes : (m : Memory) (l : Location) (x : Content) → IsHeld l x → Writes (read m) l x (read (write m l x))
 writes m l x held = record { here = written_here m l x held; elsewhere = λ k other. written_elsewhere m l k x other }

@@ -2,7 +2,7 @@
 use Rattle.std.proofs.Common.{◌≡◌, ◌≢◌, ℕ, zero, suc, ◌+◌, ◌<◌, ◌≤◌, Bool, true, false, cond, List, [], ◌∷◌, ◌++◌, sym, refl, ap, ◌∙◌, subst, eq-eqb, ne_eqb, arith, eqb}
 use mathlib.Core.Logic.{dite}
 use native.Mathlib.Decide.{ℕ_discrete}
-use Rattle.core_model.specs.Functions.{put, run}
+use Rattle.lane_steps.specs.Functions.{put, run}
 
 module _ {A : Type 0} (f : ℕ → A) (i : ℕ) (x : A) where
   pub put_here : put f i x i ≡ x
@@ -33,6 +33,10 @@ put_twice f i x y = λ k j. twice (eqb j i) x y (f j) k
 pub run_last : (f : ℕ → ℕ) (i n : ℕ) → run f i (suc n) ≡ run f i n ++ f (i + n) ∷ []
 run_last f i zero = ap (λ (k : ℕ). f k ∷ []) (omega arith)
 run_last f i (suc n) = ap (λ (xs : List ℕ). f i ∷ xs) (run_last f (suc i) n ∙ ap (λ (k : ℕ). run f (suc i) n ++ f k ∷ []) (omega arith))
+
+-- one more value behind the position d
+pub run_next : (f : ℕ → ℕ) (d n : ℕ) → run f (suc d) n ++ f (suc (d + n)) ∷ [] ≡ run f (suc d) (suc n)
+run_next f d n = ap (λ (y : ℕ). run f (suc d) n ++ f y ∷ []) (let e : suc (d + n) ≡ suc d + n = omega arith in e) ∙ sym (run_last f (suc d) n)
 
 pub run_same : (f g : ℕ → ℕ) (i n : ℕ) → ((j : ℕ) → i ≤ j → j < i + n → f j ≡ g j) → run f i n ≡ run g i n
 run_same f g i zero same = refl

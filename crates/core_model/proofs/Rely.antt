@@ -1,19 +1,22 @@
 -- What a step can change for others: the world goes on, and what was linked, decided or installed stays so.
-use Rattle.std.proofs.Common.{◌≡◌, ◌⊎◌, ℕ, suc, ◌<◌, ◌≤◌, true, false, List, ◌++◌, sym, ap, ◌∙◌, inl, Option, Some, None}
+use Rattle.std.proofs.Common.{◌≡◌, ◌≢◌, ◌⊎◌, ℕ, suc, ◌<◌, ◌≤◌, true, false, List, ◌++◌, sym, ap, ◌∙◌, inl, Option, Some, None}
 use Rattle.bq_model.specs.declared.group.Group.{Group}
 use Rattle.word_rows.specs.declared.place.Place.{Place}
-use Rattle.core_model.specs.declared.point.Notice.{Notice}
-use Rattle.core_model.specs.LaneSizes.{LaneSizes}
-use Rattle.core_model.specs.Batches.{owner_of}
-use Rattle.core_model.specs.State.{State}
-use Rattle.core_model.specs.Ghost.{Stage, unused, waiting, decided, Ghost, World, positions, Unlinked, LinkAt, On, Installed}
+use Rattle.lane_steps.specs.declared.point.Notice.{Notice}
+use Rattle.lane_steps.specs.LaneSizes.{LaneSizes}
+use Rattle.lane_steps.specs.Batches.{owner_of}
+use Rattle.lane_steps.specs.State.{State}
+use Rattle.core_model.specs.Ghost.{Stage, unused, waiting, decided, owes, paid, Ghost, World, positions, Unlinked, LinkAt, On, RetiredBy, Installed}
 
--- the third and the fourth of the facts in a list
+-- the third, the fourth and the fifth of the facts in a list
 abbrev pub third : {A B C D : Type 0} → A × (B × (C × D)) → C
 third f = f.1.1.0
 
 abbrev pub fourth : {A B C D E : Type 0} → A × (B × (C × (D × E))) → D
 fourth f = f.1.1.1.0
+
+abbrev pub fifth : {A B C D E F : Type 0} → A × (B × (C × (D × (E × F)))) → E
+fifth f = f.1.1.1.1.0
 
 -- a state with what its words don't say
 abbrev pub world : State → Ghost → World
@@ -84,6 +87,39 @@ pub anns_same : (z : LaneSizes) (a b : World) → b.ghost.stage ≡ a.ghost.stag
     → b.ghost.ann ≡ a.ghost.ann → b.ghost.head ≡ a.ghost.head → b.ghost.shown ≡ a.ghost.shown → AnnRely z a b
 anns_same z a b stage span notice old ann head shown = anns_moved z a b stage span (λ x _. ap (λ (f : ℕ → Notice). f x) notice) (λ x q _ e. ap (λ (f : ℕ → Option Place). f x) old ∙ e) (λ x e. (sym ann ∙ e, head, shown))
 
+-- the row r at the position i was retired, nobody holds it, and it is free now
+pub record LetGo (a b : World) (r i : ℕ) : Type 0 where
+  pub unheld : (d : ℕ) → a.ghost.row_held d ≢ Some r
+  pub was_read : a.ghost.reader i ≡ paid
+  pub was_passed : a.ghost.passer i ≡ paid
+  pub free : (b.memory.mark r).free ≡ true
+  pub gone : b.ghost.spot r ≡ None
+
+-- A row keeps its position, or is let go. A hold begins at a row of the list.
+pub record RowRely (a b : World) : Type 0 where
+  pub spots : (r i : ℕ) → a.ghost.spot r ≡ Some i → (b.ghost.spot r ≡ Some i) ⊎ LetGo a b r i
+  pub held_new : (d r : ℕ) → b.ghost.row_held d ≡ Some r → (a.ghost.row_held d ≡ Some r) ⊎ ((i : ℕ) × (a.ghost.spot r ≡ Some i) × (a.ghost.head ≤ i))
+
+-- positions and holds are the same
+pub rows_same : (a b : World) → ((r i : ℕ) → a.ghost.spot r ≡ Some i → b.ghost.spot r ≡ Some i) → b.ghost.row_held ≡ a.ghost.row_held → RowRely a b
+rows_same a b spots held = record {
+  spots = λ r i at. inl (spots r i at);
+  held_new = λ d r e. inl (sym (ap (λ (f : ℕ → Option ℕ). f d) held) ∙ e);
+}
+
+-- What a step leaves of the marks to set and the retired rows of caller d, where it may give it marks to set.
+pub record Near (a b : World) (d : ℕ) : Type 0 where
+  pub reads : (i : ℕ) → a.ghost.reader i ≡ owes d → b.ghost.reader i ≡ owes d
+  pub passes : (i : ℕ) → a.ghost.passer i ≡ owes d → b.ghost.passer i ≡ owes d
+  pub retired : (r i : ℕ) → RetiredBy a d r i → RetiredBy b d r i
+  pub no_retired : (r i : ℕ) → RetiredBy b d r i → RetiredBy a d r i
+
+-- the same, where it gives it none
+pub record NoDebts (a b : World) (d : ℕ) : Type 0 where
+  pub near : Near a b d
+  pub no_reads : (i : ℕ) → b.ghost.reader i ≡ owes d → a.ghost.reader i ≡ owes d
+  pub no_passes : (i : ℕ) → b.ghost.passer i ≡ owes d → a.ghost.passer i ≡ owes d
+
 -- what caller d wrote of an own announcement that it didn't install
 abbrev pub Drafts : LaneSizes → World → World → ℕ → Type 0
 Drafts z a b d = (x : ℕ) → owner_of z x ≡ d → a.ghost.stage x ≡ unused
@@ -97,9 +133,11 @@ pub record Rely (z : LaneSizes) (Touch : ℕ → Type 0) (a b : World) : Type 0 
   pub path_same : (i : ℕ) → i < positions a.ghost → b.ghost.path i ≡ a.ghost.path i
   pub chained_same : (i : ℕ) → suc i < positions a.ghost → b.ghost.chained i ≡ a.ghost.chained i
   pub spot_own : (r : ℕ) → Unlinked a r → ¬ (Touch r) → Unlinked b r
-  pub on_same : (i r : ℕ) → On a i r → (b.ghost.spot r ≡ Some i) × LinkAt b i r × (b.memory.value r ≡ a.memory.value r)
+  pub rows : RowRely a b
+  pub on_same : (i r : ℕ) → On a i r → b.ghost.spot r ≡ Some i → LinkAt b i r × (b.memory.value r ≡ a.memory.value r)
   pub link_own : (r : ℕ) → Unlinked a r → ¬ (Touch r) → b.memory.link r ≡ a.memory.link r
   pub value_own : (r : ℕ) → Unlinked a r → ¬ (Touch r) → b.memory.value r ≡ a.memory.value r
+  pub mark_own : (r : ℕ) → Unlinked a r → ¬ (Touch r) → b.memory.mark r ≡ a.memory.mark r
   pub value_path : (i : ℕ) → a.ghost.head ≤ i → i < positions a.ghost → b.memory.value (a.ghost.path i) ≡ a.memory.value (a.ghost.path i)
   pub anns : AnnRely z a b
   -- who comes to hold an announcement finds it in HEAD

@@ -1,9 +1,9 @@
 -- Runs of values, and functions that go on as another.
-use Rattle.std.proofs.Common.{◌≡◌, ◌≢◌, ℕ, zero, suc, ◌+◌, ◌-◌, ◌<◌, ◌≤◌, ltb, Bool, cond, List, ◌∷◌, ◌++◌, length, take, drop, sym, refl, ap, ◌∙◌, arith, Option, Some}
+use Rattle.std.proofs.Common.{◌≡◌, ◌≢◌, ℕ, zero, suc, ◌+◌, ◌-◌, ◌<◌, ◌≤◌, ltb, Bool, cond, List, ◌∷◌, ◌++◌, length, take, drop, sym, refl, ap, ◌∙◌, arith, Option, Some, ◌⊎◌, inl, inr}
 use Rattle.std.proofs.lemmas.Bool.{lt-ltb, le-ltb}
 use mathlib.Core.Logic.{dite}
 use native.Mathlib.Decide.{ℕ_discrete}
-use Rattle.core_model.specs.Functions.{put, run}
+use Rattle.lane_steps.specs.Functions.{put, run}
 use Rattle.core_model.proofs.Puts.{put_here, put_else}
 
 pub length-run : (f : ℕ → ℕ) (i n : ℕ) → length (run f i n) ≡ n
@@ -56,3 +56,16 @@ placed_here chain n zero spot apart i below = absurd (omega arith)
 placed_here chain n (suc m) spot apart i below = dite (ℕ_discrete i m)
     (λ e. ap (placed chain n (suc m) spot) (ap chain e) ∙ (put_here (placed chain n m spot) (chain m) (Some (n + m)) ∙ ap (λ (j : ℕ). Some (n + j)) (sym e)))
     (λ ne. put_else (placed chain n m spot) (chain m) (Some (n + m)) (chain i) (apart i m (omega arith) (omega arith)) ∙ placed_here chain n m spot (λ i j less inside. apart i j less (omega arith)) i (omega arith))
+
+-- a row that has a position then is one of these, or it had that
+pub placed_which : (chain : ℕ → ℕ) (n m : ℕ) (spot : ℕ → Option ℕ) (r i : ℕ) → placed chain n m spot r ≡ Some i → ((j : ℕ) × (j < m) × (chain j ≡ r) × (i ≡ n + j)) ⊎ (spot r ≡ Some i)
+placed_which chain n zero spot r i at = inr at
+placed_which chain n (suc m) spot r i at = dite (ℕ_discrete r (chain m))
+    (λ e. inl (m, omega arith, sym e, one (sym at ∙ (ap (placed chain n (suc m) spot) e ∙ put_here (placed chain n m spot) (chain m) (Some (n + m))))))
+    (λ ne. more (placed_which chain n m spot r i (sym (put_else (placed chain n m spot) (chain m) (Some (n + m)) r ne) ∙ at))) where
+      one : {i j : ℕ} → Some i ≡ Some j → i ≡ j
+      one e = cc e
+
+      more : ((j : ℕ) × (j < m) × (chain j ≡ r) × (i ≡ n + j)) ⊎ (spot r ≡ Some i) → ((j : ℕ) × (j < suc m) × (chain j ≡ r) × (i ≡ n + j)) ⊎ (spot r ≡ Some i)
+      more (inl (j, below, is, count)) = inl (j, omega arith, is, count)
+      more (inr old) = inr old

@@ -6,14 +6,14 @@ use Rattle.word_rows.specs.declared.place.Place.{Place}
 use Rattle.word_rows.specs.declared.marks.Marks.{Marks}
 use Rattle.word_rows.specs.declared.batch_words.BatchNumber.{BatchNumber}
 use Rattle.word_rows.specs.declared.location.Location.{Location}
-use Rattle.core_model.specs.declared.act.Act.TheVariants.{Exchange}
+use Rattle.lane_steps.specs.declared.act.Act.TheVariants.{Exchange}
 use Rattle.word_rows.specs.declared.head_word.HeadWord.{HeadWord}
 use Rattle.word_rows.specs.declared.head_word.HeadWord.TheVariants.{Node, Ann}
 use Rattle.word_rows.specs.declared.link_word.LinkWord.{LinkWord}
 use Rattle.word_rows.specs.declared.link_word.LinkWord.TheVariants.{Nil, Single, Chain, Shut}
 use Rattle.word_rows.specs.declared.content.Content.{Content}
 use Rattle.word_rows.specs.declared.content.Content.TheVariants.{OfHead, OfTail, OfLink, OfValue, OfMark, OfNodeHazard, OfAnnHazard, OfOldTail, OfChainEnd, OfCounts, OfBatchNo, OfOrder}
-use Rattle.core_model.specs.Act.{same_place, same_head, same_link, same_old_tail, same_bit, same_marks, same_hazard, same_counts, same_number, same_content, effect}
+use Rattle.lane_steps.specs.Act.{same_place, same_head, same_link, same_old_tail, same_bit, same_marks, same_hazard, same_counts, same_number, same_content, effect}
 use Rattle.core_model.proofs.StoredAgain.{same_places}
 
 heads : (x y : HeadWord) → same_head x y ≡ true → x ≡ y

@@ -7,17 +7,17 @@ use Rattle.word_rows.specs.declared.place.Place.{Place}
 use Rattle.word_rows.specs.declared.head_word.HeadWord.TheVariants.{Ann}
 use Rattle.word_rows.specs.declared.link_word.LinkWord.{LinkWord}
 use Rattle.word_rows.specs.declared.link_word.LinkWord.TheVariants.{Nil, Single, Chain, Shut}
-use Rattle.core_model.specs.Functions.{run}
-use Rattle.core_model.specs.LaneSizes.{LaneSizes}
+use Rattle.lane_steps.specs.Functions.{run}
+use Rattle.lane_steps.specs.LaneSizes.{LaneSizes}
 use Rattle.excess_count.specs.Counts.{successes_of}
-use Rattle.core_model.specs.State.{State}
-use Rattle.core_model.specs.Act.{is_unknown}
+use Rattle.lane_steps.specs.State.{State}
+use Rattle.lane_steps.specs.Act.{is_unknown}
 use Rattle.core_model.specs.Ghost.{Stage, unused, waiting, decided, Ghost, joint, at}
 use Rattle.core_model.specs.Lawful.{head_word, Lawful}
 use Rattle.core_model.specs.Shown.{linked_row, Along, follow, row_behind, is_chain_of, is_decided, decided_behind, shown_head, Shows, new_dummy}
 use Rattle.core_model.proofs.Rely.{some_none}
 use Rattle.core_model.proofs.Counting.{chain_pos}
-use Rattle.core_model.specs.Stopper.{is_stopped, stoppers, linked_rows}
+use Rattle.lane_steps.specs.Stopper.{is_stopped, stoppers, linked_rows}
 use Rattle.std.proofs.lemmas.Bool.{and_parts, eqb-true, ltb-true}
 
 module _ (z : LaneSizes) (s : State) (L : Lawful z s) where

@@ -5,21 +5,21 @@ use Rattle.word_rows.specs.declared.place.Place.{Place}
 use Rattle.word_rows.specs.declared.head_word.HeadWord.TheVariants.{Ann}
 use Rattle.word_rows.specs.declared.link_word.LinkWord.{LinkWord}
 use Rattle.word_rows.specs.declared.link_word.LinkWord.TheVariants.{Nil, Chain}
-use Rattle.core_model.specs.declared.point.Help.{Help}
-use Rattle.core_model.specs.declared.point.Point.{Point}
-use Rattle.core_model.specs.declared.point.Point.TheVariants as point
-use Rattle.core_model.specs.declared.point.HelpPoint.TheVariants as help
-use Rattle.core_model.specs.LaneSizes.{LaneSizes}
-use Rattle.core_model.specs.Batches.{owner_of}
-use Rattle.core_model.specs.State.{State, command, read, own_group}
-use Rattle.core_model.specs.Act.{is_nil, is_unknown}
-use Rattle.core_model.specs.Step.{target, added_by, next}
+use Rattle.lane_steps.specs.declared.point.Help.{Help}
+use Rattle.lane_steps.specs.declared.point.Point.{Point}
+use Rattle.lane_steps.specs.declared.point.Point.TheVariants as point
+use Rattle.lane_steps.specs.declared.point.HelpPoint.TheVariants as help
+use Rattle.lane_steps.specs.LaneSizes.{LaneSizes}
+use Rattle.lane_steps.specs.Batches.{owner_of}
+use Rattle.lane_steps.specs.State.{State, command, read, own_group}
+use Rattle.lane_steps.specs.Act.{is_nil, is_unknown}
+use Rattle.lane_steps.specs.Step.{target, added_by, next}
 use Rattle.core_model.specs.Ghost.{Stage, unused, waiting, decided, joint}
 use Rattle.core_model.specs.Saying.{Says}
 use Rattle.core_model.specs.Facts.{Describes}
 use Rattle.core_model.specs.Lawful.{head_word, Lawful}
 use Rattle.core_model.proofs.Alone.{history_added}
-use Rattle.core_model.specs.Stopper.{linked_rows}
+use Rattle.lane_steps.specs.Stopper.{linked_rows}
 
 module _ (z : LaneSizes) (s : State) (L : Lawful z s) where
   -- the announcement that HEAD names is the one that stands

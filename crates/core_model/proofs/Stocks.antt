@@ -8,8 +8,8 @@ use native.Mathlib.Decide.{dec_le}
 use Rattle.std.specs.Prelude.{nat_eq, ◌||◌}
 use Rattle.node_guard.specs.Pick.{among, pick}
 use Rattle.node_guard.proofs.Picks.{pick_right}
-use Rattle.core_model.specs.LaneSizes.{LaneSizes}
-use Rattle.core_model.specs.Batches.{owner_of}
+use Rattle.lane_steps.specs.LaneSizes.{LaneSizes}
+use Rattle.lane_steps.specs.Batches.{owner_of}
 
 -- who owns an announcement of the lane is one of its callers
 pub owner_inside : (z : LaneSizes) (a c : ℕ) → a < z.callers * z.callers → owner_of z a ≡ c → c < z.callers

@@ -8,9 +8,9 @@ use Rattle.word_rows.specs.declared.location.Location.TheVariants.{Head, Tail, L
 use Rattle.word_rows.specs.Sizes.{items_of, own_rows_of}
 use Rattle.word_rows.specs.Homes.{stopper_row_of, IsItem, IsStopper, IsHome}
 use Rattle.word_rows.specs.Opening.{opening_of}
-use Rattle.core_model.specs.LaneSizes.{lane_sizes}
-use Rattle.core_model.specs.State.{read}
-use Rattle.core_model.specs.Start.{opening}
+use Rattle.lane_steps.specs.LaneSizes.{lane_sizes}
+use Rattle.lane_steps.specs.State.{read}
+use Rattle.lane_steps.specs.Start.{opening}
 use Rattle.core_model.proofs.Opens.{row_home}
 
 opening_field : (z : Shape) (a : ℕ) (f : AnnField) → read (opening (lane_sizes z)).memory (AnnWord a f) ≡ opening_of z (AnnWord a f)

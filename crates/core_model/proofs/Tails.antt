@@ -4,16 +4,17 @@ use Rattle.std.proofs.lemmas.List.{append-nil}
 use Rattle.word_rows.specs.declared.place.Place.{Place}
 use Rattle.word_rows.specs.declared.location.Location.TheVariants.{Tail}
 use Rattle.word_rows.specs.declared.content.Content.TheVariants.{OfTail}
-use Rattle.core_model.specs.Functions.{put}
-use Rattle.core_model.specs.LaneSizes.{LaneSizes}
-use Rattle.core_model.specs.State.{Memory, Caller, State, write}
-use Rattle.core_model.specs.Act.{same_place, behind}
-use Rattle.core_model.specs.Fact.{next_is, by_single}
+use Rattle.lane_steps.specs.Functions.{put}
+use Rattle.lane_steps.specs.LaneSizes.{LaneSizes}
+use Rattle.lane_steps.specs.State.{Memory, Caller, State, write}
+use Rattle.lane_steps.specs.Act.{same_place, behind}
+use Rattle.lane_steps.specs.Fact.{next_is, by_single}
 use Rattle.core_model.specs.Facts.{Holds}
 use Rattle.core_model.specs.Ghost.{decided, Ghost, World}
 use Rattle.core_model.specs.Lawful.{Lawful}
-use Rattle.core_model.proofs.Rely.{world, anns_same, Rely}
-use Rattle.core_model.proofs.Preserves.{caller_stable, changed, drafts_same}
+use Rattle.core_model.proofs.Rely.{world, anns_same, rows_same, Rely}
+use Rattle.core_model.proofs.Callers.{caller_stable}
+use Rattle.core_model.proofs.Preserves.{changed, drafts_same, debts_same}
 use Rattle.core_model.proofs.StoredAgain.{same_places}
 use Rattle.core_model.proofs.Announces.{stages_moved}
 use mathlib.Core.Logic.{dite}
@@ -28,6 +29,8 @@ module _ (z : LaneSizes) (s : State) (L : Lawful z s) (c : ℕ) where
       → Lawful z record { memory = record s.memory { tail = behind p n }; history = s.history; callers = s.callers }
   advances p n next single is = record {
     ghost = G';
+    sizes = L.sizes;
+    marks = L.marks;
     history = L.history;
     queue = L.queue;
     list = record {
@@ -44,13 +47,13 @@ module _ (z : LaneSizes) (s : State) (L : Lawful z s) (c : ℕ) where
       links = L.list.links;
     };
     announced = stages_moved z.first (z.callers * z.callers) G.stage G.ann s.memory.notice s.memory.old_tail G.span G.path G.path G.chained G.chained G.cause G.head G.head (G.head + G.rest) (G.head + G.rest) G.shown G.shown G.tail (suc G.tail)
-        (le_refl _) (omega arith) (λ _ _. refl) (λ _ _. refl) (omega arith) (λ _ _. (refl, refl))
+        (le_refl _) (le_refl _) (omega arith) (λ _ _. refl) (λ _ _. refl) (omega arith) (λ _ _. (refl, refl))
         (λ a i e f. ⊎_elim (λ (here : G.tail ≡ i). let none = not_here a i f here in inr (omega arith)) (λ (past : i + G.span a ≤ G.tail). inr (omega arith)) (L.announced.standing a i e f).tails)
         (λ a i f none. let reached = (L.announced.bound a i f).reached in let before = (L.announced.unrecorded a i f none).1 in let some = (L.announced.unrecorded a i f none).2 in let unlinked = not_here a i f (omega arith) in absurd (omega arith))
         (λ below _. let inside = (next.there G.tail count).0 in let last = L.list.tail.lags (omega arith) (single G.tail count).1 in absurd (omega arith)) L.announced;
     told = L.told;
     pending = L.pending;
-    callers = λ d. caller_stable z (λ _. ⊥) (world s G) W rely d (s.callers d) (λ _ _ x. x) (record { linearized = refl; made = refl; drafts = drafts_same z (world s G) W refl refl refl d; hazard = refl; held = refl }) (L.callers d);
+    callers = λ d. caller_stable z (λ _. ⊥) (world s G) W rely d (s.callers d) (λ _ _ x. x) (record { linearized = refl; made = refl; drafts = drafts_same z (world s G) W refl refl refl d; hazard = refl; held = refl; row_hazard = refl; row_held = refl; debts = debts_same (world s G) W refl refl refl refl refl d }) (L.callers d);
   } where
     count : p.count ≡ z.first + G.tail
     count = ap (λ (q : Place). q.count) (sym is ∙ L.list.tail.named)
@@ -75,9 +78,11 @@ module _ (z : LaneSizes) (s : State) (L : Lawful z s) (c : ℕ) where
       path_same = λ _ _. refl;
       chained_same = λ _ _. refl;
       spot_own = λ _ u _. u;
-      on_same = λ i r on. (on.spot, on.link, refl);
+      rows = rows_same (world s G) W (λ _ _ at. at) refl;
+      on_same = λ i r on _. (on.link, refl);
       link_own = λ _ _ _. refl;
       value_own = λ _ _ _. refl;
+      mark_own = λ _ _ _. refl;
       value_path = λ _ _ _. refl;
       anns = anns_same z (world s G) W refl refl refl refl refl refl refl;
       holds = λ _ _ e. inl e;

@@ -3,7 +3,7 @@ use Rattle.std.specs.Prelude.{◌≡◌, ℕ, ◌<◌, ◌≤◌, ◌++◌, List
 use Rattle.bq_model.specs.declared.op.Op.{Op}
 use Rattle.bq_model.specs.declared.group.Group.{Group}
 use Rattle.bq_model.specs.Own.{mine}
-use Rattle.core_model.specs.State.{State}
+use Rattle.lane_steps.specs.State.{State}
 use Rattle.core_model.specs.Kept.{numbered, Stands}
 use Rattle.core_model.specs.Once.{times}
 

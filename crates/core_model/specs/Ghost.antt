@@ -1,11 +1,11 @@
 -- The positions of a lane's rows, how far its announcements are, and what else its words don't say.
-use Rattle.std.specs.Prelude.{◌≡◌, ◌≢◌, ℕ, suc, ◌+◌, ◌<◌, Bool, true, false, List, Option, Some, None}
+use Rattle.std.specs.Prelude.{◌≡◌, ◌≢◌, ◌⊎◌, ℕ, suc, ◌+◌, ◌<◌, Bool, true, false, List, Option, Some, None}
 use Rattle.bq_model.specs.declared.group.Group.{Group}
 use Rattle.word_rows.specs.declared.place.Place.{Place}
 use Rattle.word_rows.specs.declared.link_word.LinkWord.{LinkWord}
 use Rattle.word_rows.specs.declared.link_word.LinkWord.TheVariants.{Nil, Single, Chain}
-use Rattle.core_model.specs.Notices.{place}
-use Rattle.core_model.specs.State.{Memory}
+use Rattle.lane_steps.specs.Notices.{place}
+use Rattle.lane_steps.specs.State.{Memory}
 
 -- How far an announcement is.
 pub data Stage : Type 0 where
@@ -16,14 +16,32 @@ pub data Stage : Type 0 where
   -- it was decided behind the row at this position, and its rows were linked there, if any
   decided : ℕ → Stage
 
+-- Who sets a mark of the row at a position.
+pub data Due : Type 0 where
+  -- nobody yet, for no operation took its value, or passed it
+  due : Due
+  -- this caller, whose operation did so
+  owes : ℕ → Due
+  -- it is set
+  paid : Due
+
+abbrev pub is_paid : Due → Bool
+is_paid due = false
+is_paid (owes c) = false
+is_paid paid = true
+
 -- What the words don't say of a lane. Each row that was ever linked has a position, from 0 on; the row at the position i
 -- has the count `first + i`.
 pub record Ghost : Type 0 where
   -- the row at a position, and whether its link is a Chain
   pub path : ℕ → ℕ
   pub chained : ℕ → Bool
-  -- the position of a row since it was linked last; none while it is unused or taken
+  -- the position of a row since it was linked last; none while it is free, or taken and not linked
   pub spot : ℕ → Option ℕ
+  -- READ and PASSED of the row at a position, and whose retired list it is in once both are set
+  pub reader : ℕ → Due
+  pub passer : ℕ → Due
+  pub keeper : ℕ → ℕ
   -- the position of the dummy, how many rows lie behind it, and the position that TAIL names
   pub head : ℕ
   pub rest : ℕ
@@ -40,8 +58,9 @@ pub record Ghost : Type 0 where
   pub chain : ℕ → ℕ
   -- the announcement whose rows were linked behind a position
   pub cause : ℕ → ℕ
-  -- the announcement that a caller holds
+  -- the announcement and the row that a caller holds
   pub held : ℕ → Option ℕ
+  pub row_held : ℕ → Option ℕ
 
 -- how many positions there are
 abbrev pub positions : Ghost → ℕ
@@ -76,6 +95,18 @@ pub record On (w : World) (i r : ℕ) : Type 0 where
   pub spot : w.ghost.spot r ≡ Some i
   pub row : w.ghost.path i ≡ r
   pub link : LinkAt w i r
+
+-- caller c has yet to set a mark of the row at the position i
+abbrev pub Owed : World → ℕ → ℕ → Type 0
+Owed w c i = (w.ghost.reader i ≡ owes c) ⊎ (w.ghost.passer i ≡ owes c)
+
+-- the row r is at the position i, behind which the head went, and in the retired list of caller c
+pub record RetiredBy (w : World) (c r i : ℕ) : Type 0 where
+  pub spot : w.ghost.spot r ≡ Some i
+  pub before : i < w.ghost.head
+  pub was_read : w.ghost.reader i ≡ paid
+  pub was_passed : w.ghost.passer i ≡ paid
+  pub kept : w.ghost.keeper i ≡ c
 
 abbrev pub Installed : World → ℕ → Type 0
 Installed w a = w.ghost.stage a ≢ unused

@@ -5,8 +5,8 @@ use Rattle.bq_model.specs.declared.op.Answer.{Answer}
 use Rattle.bq_model.specs.declared.group.Group.{Group}
 use Rattle.bq_model.specs.Replay.{answers_from}
 use Rattle.bq_model.specs.History.{last_queue}
-use Rattle.core_model.specs.declared.point.CallEnd.TheVariants as outcome
-use Rattle.core_model.specs.State.{Caller}
+use Rattle.lane_steps.specs.declared.point.CallEnd.TheVariants as outcome
+use Rattle.lane_steps.specs.State.{Caller}
 
 -- the group stands in the history, and these are its answers: the replay's there
 pub record Stands (h : List Group) (g : Group) (answers : List Answer) : Type 0 where

@@ -1,30 +1,33 @@
 -- What is true of a lane between any two steps.
-use Rattle.std.specs.Prelude.{◌≡◌, ◌≢◌, ◌⊎◌, ℕ, suc, ◌+◌, ◌-◌, ◌*◌, ◌<◌, ◌≤◌, ◌++◌, Bool, true, false, cond, List, [], ◌∷◌, length, Option, Some, None}
+use Rattle.std.specs.Prelude.{◌≡◌, ◌≢◌, ◌⊎◌, ℕ, suc, ◌+◌, ◌-◌, ◌*◌, ◌<◌, ◌≤◌, ◌++◌, ◌==◌, Bool, true, false, cond, List, [], ◌∷◌, length, Option, Some, None}
 use Rattle.bq_model.specs.declared.op.Op.{Op}
 use Rattle.bq_model.specs.declared.group.Group.{Group}
 use Rattle.bq_model.specs.History.{operations, last_queue}
 use Rattle.bq_model.specs.Own.{mine}
 use Rattle.bq_model.specs.Proper.{IsProper}
-use Rattle.excess_count.specs.Excess.{enqueue_count}
 use Rattle.bq_model.specs.Values.{enqueued}
 use Rattle.word_rows.specs.declared.place.Place.{Place}
 use Rattle.word_rows.specs.declared.head_word.HeadWord.{HeadWord}
 use Rattle.word_rows.specs.declared.head_word.HeadWord.TheVariants.{Node, Ann}
 use Rattle.word_rows.specs.declared.link_word.LinkWord.{LinkWord}
 use Rattle.word_rows.specs.declared.link_word.LinkWord.TheVariants.{Nil, Single, Chain}
-use Rattle.core_model.specs.declared.point.Notice.{Notice}
-use Rattle.core_model.specs.declared.point.Point.{Point}
-use Rattle.core_model.specs.declared.point.Point.TheVariants as point
-use Rattle.core_model.specs.Functions.{run}
-use Rattle.core_model.specs.LaneSizes.{LaneSizes, IsItem}
-use Rattle.core_model.specs.Stopper.{chain_rows, linked_rows, passes}
-use Rattle.core_model.specs.Batches.{owner_of, alone_count}
-use Rattle.core_model.specs.State.{Memory, Caller, State, command, own_group}
-use Rattle.core_model.specs.Ghost.{Stage, unused, waiting, decided, Ghost, World, joint, at}
-use Rattle.core_model.specs.Facts.{Describes, NotToCome, Knows, IsOwn}
-use Rattle.core_model.specs.declared.point.Hold.{Hold}
-use Rattle.core_model.specs.Start.{stoppers_taken}
-use Rattle.core_model.specs.declared.point.Hold.TheVariants.{Free, Names, Held}
+use Rattle.lane_steps.specs.declared.point.Notice.{Notice}
+use Rattle.lane_steps.specs.declared.point.Guarding.{Guarding}
+use Rattle.lane_steps.specs.declared.point.Guarding.TheVariants as guard
+use Rattle.lane_steps.specs.declared.point.Point.{Point}
+use Rattle.lane_steps.specs.declared.point.Point.TheVariants as point
+use Rattle.lane_steps.specs.Functions.{run}
+use Rattle.lane_steps.specs.LaneSizes.{LaneSizes, IsItem, IsLane}
+use Rattle.lane_steps.specs.Stopper.{chain_rows, linked_rows, passes}
+use Rattle.lane_steps.specs.Batches.{owner_of}
+use Rattle.lane_steps.specs.State.{Memory, Caller, State, command, own_group}
+use Rattle.core_model.specs.Ghost.{Stage, unused, waiting, decided, Due, due, paid, is_paid, Ghost, World, joint, at}
+use Rattle.core_model.specs.Facts.{Describes, Knows, IsOwn}
+use Rattle.lane_steps.specs.declared.point.Hold.{Hold}
+use Rattle.lane_steps.specs.Take.{taken_marks}
+use Rattle.node_guard.specs.Pick.{among}
+use Rattle.word_rows.specs.declared.marks.Marks.{Marks}
+use Rattle.lane_steps.specs.declared.point.Hold.TheVariants.{Free, Names, Held}
 
 -- the values of the rows behind the shown head, first to last
 abbrev pub shown_queue : (ℕ → ℕ) → Ghost → List ℕ
@@ -38,6 +41,20 @@ pub record Listed (rows : ℕ) (link : ℕ → LinkWord) (path : ℕ → ℕ) (c
   -- each is at one position alone
   pub spots : (i : ℕ) → head ≤ i → i < suc (head + rest) → spot (path i) ≡ Some i
   pub inside : (i : ℕ) → i < suc (head + rest) → path i < rows
+  -- a row with a position is the row of that position
+  pub placed : (r i : ℕ) → spot r ≡ Some i → (i < suc (head + rest)) × (path i ≡ r)
+
+-- The marks of a row with a position are those that were set at that position. The rows up to the shown head were read, and
+-- those before it passed, and no others; a stopper counts as read.
+pub record Marked (mark : ℕ → Marks) (spot : ℕ → Option ℕ) (reader passer : ℕ → Due) (head shown : ℕ) : Type 0 where
+  pub kept : (r i : ℕ) → spot r ≡ Some i → (mark r).free ≡ false
+  pub read : (r i : ℕ) → spot r ≡ Some i → (mark r).read ≡ is_paid (reader i)
+  pub passed : (r i : ℕ) → spot r ≡ Some i → (mark r).passed ≡ is_paid (passer i)
+  pub unread : (i : ℕ) → head + shown < i → reader i ≡ due
+  pub unpassed : (i : ℕ) → head + shown ≤ i → passer i ≡ due
+  pub was_read : (i : ℕ) → i ≤ head + shown → reader i ≢ due
+  pub was_passed : (i : ℕ) → i < head + shown → passer i ≢ due
+  pub behind : (i : ℕ) → passer i ≡ paid → i < head
 
 -- the rows behind the shown head are item rows
 abbrev pub ItemRows : LaneSizes → (ℕ → ℕ) → ℕ → ℕ → ℕ → Type 0
@@ -64,14 +81,9 @@ pub record Headed (first : ℕ) (word : HeadWord) (path : ℕ → ℕ) (head res
 abbrev pub OwnGroups : ℕ → List Group → Caller → Bool → Type 0
 OwnGroups c h k linearized = mine h c ≡ k.mine ++ cond linearized (own_group c k ∷ []) []
 
--- A caller whose commands made these groups, and which runs these operations, is within its allowance. It took one item row
--- for each of its enqueues, and one stopper for each batch of dequeues alone, and has so many.
-pub record Allowed (z : LaneSizes) (groups : List Group) (running : List Op) (taken stopped : ℕ) : Type 0 where
-  pub within : length (operations groups) + length running ≤ z.allowance
-  pub rows : taken ≡ enqueue_count (operations groups) + enqueue_count running
-  pub has_rows : taken ≤ z.items
-  pub stoppers : stopped ≡ alone_count groups + stoppers_taken running
-  pub has_stoppers : stopped ≤ z.stoppers
+-- a caller whose commands made these groups, and which runs these operations, is within its allowance
+abbrev pub Allowed : LaneSizes → List Group → List Op → Type 0
+Allowed z groups running = length (operations groups) + length running ≤ z.allowance
 
 -- what a hazard word names, and what its caller holds
 abbrev pub named_by : Hold → Option ℕ
@@ -91,6 +103,16 @@ pub record Guarded (callers : ℕ) (hazard : Option ℕ) (stage : ℕ → Stage)
   pub holds : held ≡ held_by hold
   pub installed : (a : ℕ) → held ≡ Some a → stage a ≢ unused
   pub known : (a : ℕ) → held ≡ Some a → c < callers
+
+-- The same of its NODE_HAZARD, and the row that it holds has a position.
+pub record RowGuarded (callers : ℕ) (hazard : Option ℕ) (spot : ℕ → Option ℕ) (held : Option ℕ) (c : ℕ) (hold : Hold) : Type 0 where
+  pub word : hazard ≡ named_by hold
+  pub holds : held ≡ held_by hold
+  pub placed : (r : ℕ) → held ≡ Some r → spot r ≢ None
+  pub known : (r : ℕ) → held ≡ Some r → c < callers
+
+abbrev pub GuardsRow : LaneSizes → Memory → Ghost → ℕ → Hold → Type 0
+GuardsRow z m g c hold = RowGuarded z.callers (m.node_hazard c) g.spot (g.row_held c) c hold
 
 abbrev pub Guards : LaneSizes → Memory → Ghost → ℕ → Hold → Type 0
 Guards z m g c hold = Guarded z.callers (m.ann_hazard c) g.stage (g.held c) c hold
@@ -139,22 +161,30 @@ pub record Stages (first anns : ℕ) (stage : ℕ → Stage) (ann : Option ℕ) 
   pub unknown : (a : ℕ) → stage a ≡ waiting → old_tail a ≡ None
   pub recorded : (a i : ℕ) (q : Place) → stage a ≡ decided i → old_tail a ≡ Some q → q ≡ at first path i
   pub unrecorded : (a i : ℕ) → stage a ≡ decided i → old_tail a ≡ None → (ann ≡ Some a) × (tail ≤ i) × (0 < span a)
+  -- one that has left HEAD was passed by as many rows as its batch passes
+  pub left : (a i h : ℕ) → stage a ≡ decided i → ann ≢ Some a → (notice a).old_head ≡ at first path h → h + passes (notice a).counts (i - h) ≤ head
   -- where TAIL lags over a Chain link, that links the rows of the decided announcement in HEAD, and no others
   pub lags : tail < total → chained tail ≡ true → (a : ℕ) × (stage a ≡ decided tail) × (ann ≡ Some a) × (total ≤ tail + span a)
 
 abbrev pub Announced : LaneSizes → Memory → Ghost → Type 0
 Announced z m g = Stages z.first (z.callers * z.callers) g.stage g.ann m.notice m.old_tail g.span g.path g.chained g.cause g.head (g.head + g.rest) g.shown g.tail
 
--- the caller helps its own announcement
+-- the caller helps its own announcement, or makes sure of it or of a row for that
+abbrev pub GuardsOwn : Guarding → Type 0
+GuardsOwn (guard.Help h) = IsOwn h.back
+GuardsOwn (guard.HelpTail h p) = IsOwn h.back
+GuardsOwn _ = ⊥
+
 abbrev pub HelpsOwn : Point → Type 0
 HelpsOwn (point.Help h p) = IsOwn h.back
+HelpsOwn (point.Guard t p) = GuardsOwn t
 HelpsOwn _ = ⊥
 
 -- An announcement in HEAD says what the command of its owner c, which keeps k, is, and names rows of it, and the owner helps
 -- it. Where it is decided, its rows have the values of the enqueues in order.
 pub record Told (home value path : ℕ → ℕ) (stage : Stage) (notice : Notice) (c : ℕ) (k : Caller) : Type 0 where
   pub describes : Describes c (command k) notice
-  pub some : 0 < length k.ops
+  pub several : 1 < length k.ops
   pub first : home notice.first ≡ c
   pub last : home notice.last ≡ c
   pub helps : HelpsOwn k.point
@@ -165,7 +195,7 @@ IsTold z m g callers a = g.ann ≡ Some a → Told z.home m.value g.path (g.stag
 
 -- The rows of an announcement that waits are unlinked rows of its owner c, which keeps k, joined by Single links, with
 -- the values of the enqueues in order; or its one row is a stopper.
-pub record Pending (z : LaneSizes) (link : ℕ → LinkWord) (value : ℕ → ℕ) (spot : ℕ → Option ℕ) (chain : ℕ → ℕ) (linearized : Bool) (notice : Notice) (c : ℕ) (k : Caller) : Type 0 where
+pub record Pending (z : LaneSizes) (link : ℕ → LinkWord) (value : ℕ → ℕ) (mark : ℕ → Marks) (spot : ℕ → Option ℕ) (chain : ℕ → ℕ) (linearized : Bool) (notice : Notice) (c : ℕ) (k : Caller) : Type 0 where
   pub known : c < z.callers
   pub not_yet : linearized ≡ false
   pub starts : chain 0 ≡ notice.first
@@ -174,14 +204,16 @@ pub record Pending (z : LaneSizes) (link : ℕ → LinkWord) (value : ℕ → �
   pub inside : (i : ℕ) → i < chain_rows notice.counts → chain i < z.rows
   pub items : (i : ℕ) → i < notice.counts.enqs → IsItem z (chain i)
   pub unlinked : (i : ℕ) → i < chain_rows notice.counts → spot (chain i) ≡ None
-  pub taken : (i : ℕ) → i < chain_rows notice.counts → NotToCome z c k.taken k.stopped (chain i)
+  pub marks : (i : ℕ) → i < chain_rows notice.counts → mark (chain i) ≡ taken_marks (notice.counts.enqs == 0)
+  -- these are the rows that its owner took
+  pub taken : (r : ℕ) → among k.rows r ≡ true → (i : ℕ) × (i < chain_rows notice.counts) × (chain i ≡ r)
   pub apart : (i j : ℕ) → i < j → j < chain_rows notice.counts → chain i ≢ chain j
   pub joined : (i : ℕ) → suc i < chain_rows notice.counts → link (chain i) ≡ Single (chain (suc i))
   pub last : (i : ℕ) → suc i ≡ chain_rows notice.counts → link (chain i) ≡ Nil
   pub values : enqueued k.ops ≡ run (λ i. value (chain i)) 0 notice.counts.enqs
 
 abbrev pub Waits : LaneSizes → Memory → Ghost → (ℕ → Caller) → ℕ → Type 0
-Waits z m g callers a = g.stage a ≡ waiting → Pending z m.link m.value g.spot g.chain (g.linearized (owner_of z a)) (m.notice a) (owner_of z a) (callers (owner_of z a))
+Waits z m g callers a = g.stage a ≡ waiting → Pending z m.link m.value m.mark g.spot g.chain (g.linearized (owner_of z a)) (m.notice a) (owner_of z a) (callers (owner_of z a))
 
 -- the list of rows with HEAD and TAIL, in a lane whose history has so many operations
 pub record Ordered (z : LaneSizes) (head_is : HeadWord) (tail_is : Place) (link : ℕ → LinkWord) (made : ℕ) (path : ℕ → ℕ) (chained : ℕ → Bool) (spot : ℕ → Option ℕ)
@@ -201,7 +233,8 @@ InOrder z m h g = Ordered z m.head m.tail m.link (length (operations h)) g.path 
 pub record OfCaller (z : LaneSizes) (w : World) (c : ℕ) (k : Caller) : Type 0 where
   pub guards : Guards z w.memory w.ghost c k.hold
   pub own_groups : OwnGroups c w.history k (w.ghost.linearized c)
-  pub allowed : Allowed z k.mine k.ops k.taken k.stopped
+  pub guards_row : GuardsRow z w.memory w.ghost c k.row_hold
+  pub allowed : Allowed z k.mine k.ops
   pub knows : Knows z w c k
 
 pub record Lawful (z : LaneSizes) (s : State) : Type 0 where
@@ -209,7 +242,9 @@ pub record Lawful (z : LaneSizes) (s : State) : Type 0 where
   -- the history is proper, and the shown queue is its last queue
   pub history : IsProper z.callers s.history
   pub queue : last_queue s.history ≡ shown_queue s.memory.value ghost
+  pub sizes : IsLane z
   pub list : InOrder z s.memory s.history ghost
+  pub marks : Marked s.memory.mark ghost.spot ghost.reader ghost.passer ghost.head ghost.shown
   pub announced : Announced z s.memory ghost
   pub told : (a : ℕ) → IsTold z s.memory ghost s.callers a
   pub pending : (a : ℕ) → Waits z s.memory ghost s.callers a

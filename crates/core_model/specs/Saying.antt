@@ -2,10 +2,10 @@
 use Rattle.std.specs.Prelude.{◌≡◌, ℕ, ◌*◌, ◌<◌, ◌≤◌, Some, ◌-◌}
 use Rattle.word_rows.specs.declared.place.Place.{Place}
 use Rattle.word_rows.specs.declared.link_word.LinkWord.TheVariants.{Chain}
-use Rattle.core_model.specs.Batches.{owner_of}
-use Rattle.core_model.specs.LaneSizes.{LaneSizes}
-use Rattle.core_model.specs.State.{Memory}
-use Rattle.core_model.specs.Stopper.{linked_rows}
+use Rattle.lane_steps.specs.Batches.{owner_of}
+use Rattle.lane_steps.specs.LaneSizes.{LaneSizes}
+use Rattle.lane_steps.specs.State.{Memory}
+use Rattle.lane_steps.specs.Stopper.{linked_rows}
 
 -- Its OldHead is the place of the dummy, whose count HEAD has too. First and Last are rows of its owner. OldTail isn't
 -- known, or is a place at or behind the dummy: that behind which its chain or its stopper was linked, where one was.

@@ -6,10 +6,10 @@ use Rattle.word_rows.specs.declared.head_word.HeadWord.TheVariants.{Node, Ann}
 use Rattle.word_rows.specs.declared.link_word.LinkWord.{LinkWord}
 use Rattle.word_rows.specs.declared.link_word.LinkWord.TheVariants.{Nil, Single, Chain, Shut}
 use Rattle.excess_count.specs.Counts.{successes_of}
-use Rattle.core_model.specs.State.{Memory}
-use Rattle.core_model.specs.Act.{is_unknown}
-use Rattle.core_model.specs.Stopper.{is_stopped}
-use Rattle.core_model.specs.declared.point.Notice.{Notice}
+use Rattle.lane_steps.specs.State.{Memory}
+use Rattle.lane_steps.specs.Act.{is_unknown}
+use Rattle.lane_steps.specs.Stopper.{is_stopped}
+use Rattle.lane_steps.specs.declared.point.Notice.{Notice}
 
 -- the row that a link names, if any
 abbrev pub linked_row : LinkWord → Option ℕ

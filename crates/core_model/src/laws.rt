@@ -1,5 +1,5 @@
 // Laws of the pure machine. Each is proved of every lane and every state; the functions do nothing.
-ghost use Rattle.std.specs.Prelude.{◌≡◌, ◌≢◌, ◌⊎◌, ◌↔◌, ◌*◌, ◌<◌, ◌^◌, ◌++◌, ℕ, List, [], ◌∷◌, length, get_or, ◌≤◌, Some, None, false};
+ghost use Rattle.std.specs.Prelude.{◌≡◌, ◌≢◌, ◌⊎◌, ◌*◌, ◌<◌, ◌^◌, ◌++◌, ℕ, List, [], ◌∷◌, length, get_or, ◌≤◌, Some, None, true, false};
 ghost use Rattle.bq_model.specs.declared.group.Group.{Group};
 ghost use Rattle.bq_model.specs.declared.op.Op.{Op};
 ghost use Rattle.bq_model.specs.declared.shape.Shape.{Shape};
@@ -13,35 +13,40 @@ ghost use Rattle.word_rows.specs.declared.place.Place.{Place};
 ghost use Rattle.word_rows.specs.Contents.{MayHold};
 ghost use Rattle.word_rows.specs.Homes.{IsHome};
 ghost use Rattle.word_rows.specs.Opening.{opening_of};
-ghost use Rattle.core_model.specs.declared.point.CallEnd.TheVariants.{Done};
-ghost use Rattle.core_model.specs.declared.point.Help.{Help};
-ghost use Rattle.core_model.specs.declared.point.Point.{Point};
-ghost use Rattle.core_model.specs.declared.point.HelpPoint.{HelpPoint};
-ghost use Rattle.core_model.specs.declared.point.Point.TheVariants.{Idle};
+ghost use Rattle.lane_steps.specs.declared.point.CallEnd.TheVariants.{Done};
+ghost use Rattle.lane_steps.specs.declared.point.Closing.{Closing};
+ghost use Rattle.lane_steps.specs.declared.point.ClosePoint.{ClosePoint};
+ghost use Rattle.lane_steps.specs.declared.point.Help.{Help};
+ghost use Rattle.lane_steps.specs.declared.point.Point.{Point};
+ghost use Rattle.lane_steps.specs.declared.point.HelpPoint.{HelpPoint};
+ghost use Rattle.lane_steps.specs.declared.point.Point.TheVariants.{Idle};
 ghost use Rattle.node_guard.specs.Pick.{among};
-ghost use Rattle.core_model.specs.declared.kind.StepKind.TheVariants.{StoreAnnHazard};
-ghost use Rattle.core_model.specs.declared.point.BatchPoint.{BatchPoint};
-ghost use Rattle.core_model.specs.declared.point.Draft.{Draft};
-ghost use Rattle.core_model.specs.declared.point.FillPoint.{FillPoint};
-ghost use Rattle.core_model.specs.declared.point.Notice.{Notice};
-ghost use Rattle.core_model.specs.Held.{HoldsAnn, BeginsHold, Untouched, chosen_by};
-ghost use Rattle.core_model.specs.Kind.{kind_of};
+ghost use Rattle.lane_steps.specs.declared.kind.StepKind.TheVariants.{StoreNodeHazard, StoreAnnHazard};
+ghost use Rattle.lane_steps.specs.declared.point.BatchPoint.{BatchPoint};
+ghost use Rattle.lane_steps.specs.declared.point.Draft.{Draft};
+ghost use Rattle.lane_steps.specs.declared.point.FillPoint.{FillPoint};
+ghost use Rattle.lane_steps.specs.declared.point.Notice.{Notice};
+ghost use Rattle.lane_steps.specs.declared.point.Taking.{Taking};
+ghost use Rattle.lane_steps.specs.declared.point.TakePoint.{TakePoint};
+ghost use Rattle.core_model.specs.Held.{HoldsAnn, HoldsRow, BeginsHold, BeginsRowHold, Untouched, RowUntouched, chosen_by};
+ghost use Rattle.lane_steps.specs.Kind.{kind_of};
 ghost use Rattle.core_model.specs.Alone.{GoesOnOrEnds};
-ghost use Rattle.core_model.specs.Coded.{IsCoded};
+ghost use Rattle.lane_steps.specs.Coded.{IsCoded};
 ghost use Rattle.core_model.specs.Ended.{EndedDone};
-ghost use Rattle.core_model.specs.Fits.{ActFits};
-ghost use Rattle.core_model.specs.LaneSizes.{LaneSizes, lane_sizes};
+ghost use Rattle.lane_steps.specs.Fits.{ActFits};
+ghost use Rattle.lane_steps.specs.LaneSizes.{LaneSizes, lane_sizes};
 ghost use Rattle.core_model.specs.Lawful.{HelpsOwn, Lawful};
-ghost use Rattle.core_model.specs.Noted.{Begins, EndsFull, IsNoted};
+ghost use Rattle.core_model.specs.Noted.{Begins, IsNoted};
 ghost use Rattle.core_model.specs.Once.{times};
-ghost use Rattle.core_model.specs.Ranges.{IsWord, CountsFit, NamesRows};
-ghost use Rattle.core_model.specs.Start.{PassesAllowance, IsCommand, LacksRows, begun, start, opening};
-ghost use Rattle.core_model.specs.Batches.{owner_of};
+ghost use Rattle.core_model.specs.Uses.{Use, IsUsed, IsListed, LacksMark};
+ghost use Rattle.lane_steps.specs.Ranges.{IsWord, CountsFit, NamesRows};
+ghost use Rattle.lane_steps.specs.Start.{PassesAllowance, IsCommand, start, opening};
+ghost use Rattle.lane_steps.specs.Batches.{owner_of};
 ghost use Rattle.core_model.specs.Facts.{Describes};
 ghost use Rattle.core_model.specs.Saying.{Says};
 ghost use Rattle.core_model.specs.Shown.{Shows};
-ghost use Rattle.core_model.specs.State.{State, command, read, own_group};
-ghost use Rattle.core_model.specs.Step.{act, target, added_by, next};
+ghost use Rattle.lane_steps.specs.State.{State, command, read, own_group};
+ghost use Rattle.lane_steps.specs.Step.{act, target, added_by, next};
 
 /// An empty lane is lawful, and it stays so at each step of each caller and at each start of a command.
 pub fn each_event_keeps_the_lane_lawful()
@@ -59,14 +64,10 @@ pub fn a_step_is_its_callers_alone()
     ensures own_command { (z : LaneSizes) (s : State) (c : ℕ) → GoesOnOrEnds c (s.callers c) ((next z s c).callers c) }
 {}
 
-/// A start keeps the given operations and the moment, and no more is told of its command; where a row is lacking,
-/// the command ends with Full at once. A step leaves all this, or ends the command with Done, and its group joins
-/// the caller's.
+/// A start keeps the given operations and the moment, and leaves the retired rows. A step leaves all this, or ends the command:
+/// with Done, and its group joins the caller's, or with Full, and the caller has made no group.
 pub fn starts_and_ends_are_noted()
-    ensures begins { (z : LaneSizes) (s : State) (c : ℕ) (ops : List Op) → Lawful z s → IsCommand ops → (s.callers c).point ≡ Idle
-        → ¬ (LacksRows z (mine s.history c) ops) → Begins (length s.history) ops (s.callers c) ((start z s c ops).callers c) }
-    ensures full { (z : LaneSizes) (s : State) (c : ℕ) (ops : List Op) → Lawful z s → IsCommand ops → (s.callers c).point ≡ Idle
-        → LacksRows z (mine s.history c) ops → EndsFull (length s.history) (s.callers c) ((start z s c ops).callers c) }
+    ensures begins { (z : LaneSizes) (s : State) (c : ℕ) (ops : List Op) → Begins (length s.history) ops (s.callers c) ((start z s c ops).callers c) }
     ensures step { (z : LaneSizes) (s : State) (c : ℕ) → IsNoted (length (next z s c).history) c (s.callers c) ((next z s c).callers c) }
 {}
 
@@ -89,14 +90,6 @@ pub fn ended_commands_stand_in_the_history()
     ensures own_groups { (z : LaneSizes) (s : State) (c : ℕ) → Lawful z s → (s.callers c).point ≡ Idle → mine s.history c ≡ (s.callers c).mine }
     ensures once { (z : LaneSizes) (s : State) (before behind : List Group) (g : Group) → Lawful z s
         → s.history ≡ (before ++ g ∷ []) ++ behind → times g s.history ≡ 1 }
-{}
-
-/// A command of an idle caller ends with Full at once exactly where the caller's enqueues so far and the new ones are more
-/// than its item rows, or where it is of several dequeues alone and the caller made as many such commands as it has stoppers.
-/// It never lacks an announcement.
-pub fn full_comes_exactly_without_a_row()
-    ensures { (z : LaneSizes) (s : State) (c : ℕ) (ops : List Op) → Lawful z s → IsCommand ops → (s.callers c).point ≡ Idle
-        → ((begun z (length s.history) c (s.callers c) ops).point ≡ Idle) ↔ LacksRows z (mine s.history c) ops }
 {}
 
 /// In a lawful lane each step touches a word of the lane and finds in it what is in range, and no count passes the limit.
@@ -164,4 +157,39 @@ pub fn held_announcements_are_left()
         → d < e → d ≢ c → owner_of z a ≡ c → among (s.callers c).named a ≡ false → ¬ (HoldsAnn (s.callers d) a) }
     ensures stays { (z : LaneSizes) (s : State) (c d e a : ℕ) → Lawful z s → ¬ (HelpsOwn (s.callers c).point) → owner_of z a ≡ c
         → ¬ (HoldsAnn (s.callers d) a) → ¬ (HoldsAnn ((next z s e).callers d) a) }
+{}
+
+/// A caller holds a row from its second load of HEAD or TAIL on, which found the row's place there still, until it stores its
+/// NODE_HAZARD again. While it does, its NODE_HAZARD names it, and the row isn't FREE. No step of any caller gives it, frees
+/// it, or rewrites its value, or a link of it that isn't Nil. What a caller has read in the NODE_HAZARD words at the end of its
+/// call stays right until it has freed the last row: whose word named none of its retired rows but those that it found named
+/// holds no other, and nobody comes to hold one.
+pub fn held_rows_are_left()
+    ensures begins { (z : LaneSizes) (s : State) (c r : ℕ) → Lawful z s → HoldsRow ((next z s c).callers c) r → HoldsRow (s.callers c) r ⊎ BeginsRowHold s c r }
+    ensures ends { (z : LaneSizes) (s : State) (c r : ℕ) → Lawful z s → HoldsRow (s.callers c) r
+        → HoldsRow ((next z s c).callers c) r ⊎ (kind_of (s.callers c).point ≡ Some StoreNodeHazard) }
+    ensures starts { (z : LaneSizes) (s : State) (c d : ℕ) (ops : List Op) → ((start z s c ops).callers d).row_hold ≡ (s.callers d).row_hold }
+    ensures named { (z : LaneSizes) (s : State) (c r : ℕ) → Lawful z s → HoldsRow (s.callers c) r → s.memory.node_hazard c ≡ Some r }
+    ensures not_free { (z : LaneSizes) (s : State) (c r : ℕ) → Lawful z s → HoldsRow (s.callers c) r → (s.memory.mark r).free ≡ false }
+    ensures left { (z : LaneSizes) (s : State) (c e r : ℕ) → Lawful z s → HoldsRow (s.callers e) r → RowUntouched s.memory (next z s c).memory r }
+    ensures not_given { (z : LaneSizes) (s : State) (c e r : ℕ) (t : Taking) → Lawful z s → (s.callers c).point ≡ Point.Take t (TakePoint.ClearMark r) → ¬ (HoldsRow (s.callers e) r) }
+    ensures not_freed { (z : LaneSizes) (s : State) (c e r : ℕ) (a : Closing) → Lawful z s → (s.callers c).point ≡ Point.Close a (ClosePoint.MarkFree r) → ¬ (HoldsRow (s.callers e) r) }
+    ensures read { (z : LaneSizes) (s : State) (c d r : ℕ) → Lawful z s → s.memory.node_hazard d ≢ Some r → ¬ (HoldsRow (s.callers d) r) }
+    ensures scan { (z : LaneSizes) (s : State) (c d e r : ℕ) (a : Closing) → Lawful z s → (s.callers c).point ≡ Point.Close a (ClosePoint.LoadHazard e)
+        → d < e → among (s.callers c).retired r ≡ true → among (s.callers c).named r ≡ false → ¬ (HoldsRow (s.callers d) r) }
+    ensures frees { (z : LaneSizes) (s : State) (c d q r : ℕ) (a : Closing) → Lawful z s → (s.callers c).point ≡ Point.Close a (ClosePoint.MarkFree q)
+        → among (s.callers c).retired r ≡ true → among (s.callers c).named r ≡ false → ¬ (HoldsRow (s.callers d) r) }
+    ensures stays { (z : LaneSizes) (s : State) (c d e r : ℕ) → Lawful z s → among (s.callers c).retired r ≡ true
+        → ¬ (HoldsRow (s.callers d) r) → ¬ (HoldsRow ((next z s e).callers d) r) }
+{}
+
+/// Each row of a lawful lane is used in one way, and in one alone. It is free; or its home, whose call runs, took it and has
+/// not linked it; or it is in the list, from the dummy on; or the head has passed it, and a caller whose call runs has yet to
+/// set READ or PASSED on it; or it is in the retired list of one caller, with both of these set and FREE not. In the list, and
+/// until both marks are set, no step rewrites its value, or a link of it that isn't Nil.
+pub fn each_row_has_one_use()
+    ensures one { (z : LaneSizes) (s : State) (r : ℕ) (lawful : Lawful z s) → r < z.rows
+        → (u : Use) × IsUsed z s lawful.ghost r u × ((v : Use) → IsUsed z s lawful.ghost r v → v ≡ u) }
+    ensures left { (z : LaneSizes) (s : State) (c r : ℕ) (lawful : Lawful z s)
+        → IsListed z s lawful.ghost r ⊎ LacksMark z s lawful.ghost r → RowUntouched s.memory (next z s c).memory r }
 {}

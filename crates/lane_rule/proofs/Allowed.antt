@@ -1,5 +1,5 @@
 -- Each step of the machine is allowed on the table: one lemma for all kinds.
-use Rattle.std.proofs.Common.{◌≡◌, ◌≢◌, ℕ, zero, suc, inl, ◌<◌, List, [], ◌∷◌, ◌++◌, length, get_or, set, sym, refl, ap, ◌∙◌, subst, ⊎_elim, append_assoc}
+use Rattle.std.proofs.Common.{◌≡◌, ◌≢◌, ℕ, zero, suc, inl, None, ◌<◌, List, [], ◌∷◌, ◌++◌, length, get_or, set, sym, refl, ap, ◌∙◌, subst, ⊎_elim, append_assoc}
 use Rattle.std.proofs.lemmas.List.{append-nil}
 use mathlib.Core.Option.{some, some-ne-none}
 use lib.ListN.{get_elem?}
@@ -13,23 +13,27 @@ use Rattle.word_rows.specs.Layout.{index_of}
 use Rattle.word_rows.specs.Contents.{coded, MayHold}
 use Rattle.word_rows.specs.Memory.{Shows}
 use Rattle.word_rows.proofs.MemoryLemmas.{Shows-words_after}
-use Rattle.core_model.specs.LaneSizes.{LaneSizes, lane_sizes}
-use Rattle.core_model.specs.declared.point.Point.{Point}
-use Rattle.core_model.specs.State.{Caller, State, own_group, read}
-use Rattle.core_model.specs.Step.{target, stored, linearizes, group_owner, added_by, history_with, after, step_at}
-use Rattle.core_model.specs.Coded.{IsCoded}
+use Rattle.lane_steps.specs.LaneSizes.{LaneSizes, lane_sizes}
+use Rattle.lane_steps.specs.declared.point.Point.{Point}
+use Rattle.lane_steps.specs.State.{Caller, State, own_group, read, hazard_in}
+use Rattle.lane_steps.specs.Step.{target, stored, linearizes, group_owner, added_by, history_with, after, step_at}
+use Rattle.lane_steps.specs.Coded.{IsCoded}
+use Rattle.core_model.specs.Few.{ListsFit}
 use Rattle.core_model.specs.Lawful.{Lawful}
 use Rattle.core_model.proofs.Puts.{put_here, put_else}
 use Rattle.core_model.proofs.Steps.{preserves_at}
 use Rattle.core_model.proofs.CodedSteps.{step_writes}
-use Rattle.core_model.proofs.ReadValues.{values_fit, walked_fit, named_fit}
+use Rattle.core_model.proofs.FewSteps.{lists_fit}
+use Rattle.row_stock.specs.Draws.{LacksRows}
+use Rattle.row_stock.proofs.DrawSteps.{draws_at}
+use Rattle.row_stock.proofs.Lacking.{full_lacks}
 use Rattle.lane_rule.specs.declared.view.View.{View}
 use Rattle.lane_rule.specs.declared.view.Held.{Held}
 use Rattle.lane_rule.specs.declared.view.Kind.{Kind}
 use Rattle.lane_rule.specs.declared.view.Kind.TheVariants.{Maker, Alone, Gathered, Spent}
 use Rattle.lane_rule.specs.Rule.{caller_of, kept_of, Begins, Runs, AllHeld, SitsAs, Sits, Ruled}
 use Rattle.lane_rule.specs.Goes.{Ready, Goes}
-use Rattle.lane_rule.proofs.Ready.{ready, found_at, coded_at, grew, knows}
+use Rattle.lane_rule.proofs.Ready.{ready, found_at, coded_at, own_is_free, grew, knows}
 
 module _ {A : Type 0} where
   -- a list that has an item at i takes another there
@@ -124,6 +128,7 @@ module _ (key : Shape) (slots id : ℕ) (me : Me ℕ View) (alone : me.0.kind �
       core = core';
       lawful = lawful';
       codable = codable';
+      draws = draws_at z r.core r.lawful r.draws me.0.caller me.0.kept.point point_is;
       seat = r.seat;
       shows = new_words n is;
       each_seat = seated;
@@ -139,11 +144,11 @@ module _ (key : Shape) (slots id : ℕ) (me : Me ℕ View) (alone : me.0.kind �
       later = (sits.begins.0 ++ added_by z r.core.callers me.0.caller me.0.kept.point x, grows ∙ ap (λ (h : List Group). h ++ added_by z r.core.callers me.0.caller me.0.kept.point x) sits.begins.1 ∙ append_assoc me.0.seen sits.begins.0 (added_by z r.core.callers me.0.caller me.0.kept.point x));
       heard = refl;
       found = subst (λ (p : Shape). MayHold p (target me.0.caller me.0.kept.point) x) (sym sits.planned) (found_at key r.core r.lawful r.codable me.0.caller me.0.kept.point point_is);
+      own_word = λ a is. subst (λ (t : Point). hazard_in (read r.core.memory (target me.0.caller t)) ≡ None) point_is (own_is_free key r.core r.lawful r.codable me.0.caller a (point_is ∙ is));
+      full = λ some idle full. subst (λ (y : Shape × Caller). LacksRows (lane_sizes y.0) y.1.mine y.1.ops) (λ i. (sym sits.planned i, sits.shown i)) (full_lacks z r.core r.lawful r.draws me.0.caller me.0.kept.point point_is (subst (λ (k : Caller). 0 < length k.ops) (sym sits.shown) some) (ap (λ (k : Caller). k.point) here' ∙ idle) (ap (λ (k : Caller). k.outcome) here' ∙ full));
       ready = subst (λ (p : Shape). Ready p me.0.caller k'.point) (sym sits.planned) (subst (λ (k : Caller). Ready key me.0.caller k.point) here' (ready key core' lawful' codable' me.0.caller));
       knows = knows key core' lawful' w sits.planned refl here';
-      reads = λ m r l is. subst (λ (k : Caller). length k.values < length k.ops) here' (values_fit z core' lawful' me.0.caller m r l (ap (λ (k : Caller). k.point) here' ∙ is));
-      walks = λ d r l is. subst (λ (k : Caller). length k.values < length k.ops) here' (walked_fit z core' lawful' me.0.caller d r l (ap (λ (k : Caller). k.point) here' ∙ is));
-      hears = λ n e is. subst (λ (y : Shape × Caller). (e < y.0.callers) × (suc (length y.1.named) < y.0.callers)) (λ i. (sym sits.planned i, here' i)) (named_fit z core' lawful' me.0.caller n e (ap (λ (k : Caller). k.point) here' ∙ is));
+      lists = subst (λ (y : Shape × Caller). ListsFit y.0.callers y.1) (λ i. (sym sits.planned i, here' i)) (lists_fit key core' lawful' me.0.caller);
     }
 
   -- the step is allowed where it writes what the machine stores

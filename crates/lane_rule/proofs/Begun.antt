@@ -1,5 +1,5 @@
 -- The first step of a call starts the command and makes its first step.
-use Rattle.std.proofs.Common.{◌≡◌, ◌≢◌, ℕ, ◌≤◌, List, [], length, set, get_or, sym, refl, ap, ◌∙◌, subst, inl, ⊎_elim, arith, set-set, true}
+use Rattle.std.proofs.Common.{◌≡◌, ◌≢◌, ℕ, ◌≤◌, List, [], length, set, get_or, sym, refl, ap, ◌∙◌, subst, inl, ⊎_elim, arith, set-set}
 use Rattle.std.proofs.lemmas.List.{append-nil, length-append}
 use mathlib.Core.Logic.{dite}
 use native.Mathlib.Decide.{ℕ_discrete}
@@ -14,15 +14,18 @@ use Rattle.bq_model.specs.declared.shape.Shape.{Shape}
 use Rattle.word_rows.specs.declared.content.Content.{Content}
 use Rattle.word_rows.specs.Layout.{index_of}
 use Rattle.word_rows.specs.Contents.{coded, MayHold}
-use Rattle.core_model.specs.Functions.{put}
-use Rattle.core_model.specs.LaneSizes.{lane_sizes}
-use Rattle.core_model.specs.declared.point.Point.{Point}
-use Rattle.core_model.specs.declared.point.Point.TheVariants.{Idle}
-use Rattle.core_model.specs.State.{Caller, State}
-use Rattle.core_model.specs.Step.{target, stored}
-use Rattle.core_model.specs.Start.{PassesAllowance, has_rows, started}
+use Rattle.lane_steps.specs.Functions.{put}
+use Rattle.lane_steps.specs.LaneSizes.{lane_sizes}
+use Rattle.lane_steps.specs.declared.point.Point.{Point}
+use Rattle.lane_steps.specs.declared.point.Point.TheVariants.{Idle}
+use Rattle.lane_steps.specs.State.{Caller, State}
+use Rattle.lane_steps.specs.Step.{target, stored}
+use Rattle.lane_steps.specs.Start as starting
+use Rattle.lane_steps.specs.Start.{PassesAllowance}
 use Rattle.core_model.proofs.Puts.{put_here, put_else}
-use Rattle.core_model.proofs.CodedStarts.{begun_lawful, begun_coded}
+use Rattle.core_model.proofs.Steps.{preserves_start}
+use Rattle.core_model.proofs.CodedStarts.{start_coded}
+use Rattle.row_stock.proofs.DrawSteps.{draws_start}
 use Rattle.lane_rule.specs.declared.view.View.{View}
 use Rattle.lane_rule.specs.declared.view.Kind.{Kind}
 use Rattle.lane_rule.specs.declared.view.Kind.TheVariants.{Alone, Gathered}
@@ -56,10 +59,10 @@ module _ (key : Shape) (s : table.State ℕ View) (r : Ruled key s) (id : ℕ) (
   n = length r.core.history
 
   abbrev k' : Caller
-  k' = started (lane_sizes key) (length r.core.history) v.caller (r.core.callers v.caller) ops
+  k' = starting.begun (lane_sizes key) (length r.core.history) v.caller (r.core.callers v.caller) ops
 
   abbrev core' : State
-  core' = record { memory = r.core.memory; history = r.core.history; callers = put r.core.callers v.caller (started (lane_sizes key) (length r.core.history) v.caller (r.core.callers v.caller) ops) }
+  core' = record { memory = r.core.memory; history = r.core.history; callers = put r.core.callers v.caller (starting.begun (lane_sizes key) (length r.core.history) v.caller (r.core.callers v.caller) ops) }
 
   idle : (r.core.callers v.caller).point ≡ Idle
   idle = ap (λ (k : Caller). k.point) sits.shown ∙ may.idle
@@ -68,16 +71,13 @@ module _ (key : Shape) (s : table.State ℕ View) (r : Ruled key s) (id : ℕ) (
   left : ¬ (PassesAllowance (lane_sizes key) (r.core.callers v.caller) (length ops))
   left = subst (λ (y : Shape × Caller). ¬ (PassesAllowance (lane_sizes y.0) y.1 (length ops))) (λ i. (sits.planned i, sym sits.shown i)) may.left
 
-  rows : has_rows (lane_sizes key) (r.core.callers v.caller) ops ≡ true
-  rows = subst (λ (y : Shape × Caller). has_rows (lane_sizes y.0) y.1 ops ≡ true) (λ i. (sits.planned i, sym sits.shown i)) may.rows
-
   short : length ops ≤ key.batch
   short = subst (λ (y : Shape). length ops ≤ y.batch) sits.planned may.short
 
   began_seat : Runs key core' r.seat id (begun v n ops)
   began_seat = record {
     alone = sits.alone;
-    shown = put_here r.core.callers v.caller k' ∙ (λ i. started (lane_sizes (sym sits.planned i)) n v.caller (sits.shown i) ops);
+    shown = put_here r.core.callers v.caller k' ∙ (λ i. starting.begun (lane_sizes (sym sits.planned i)) n v.caller (sits.shown i) ops);
     begins = sits.begins;
     planned = sits.planned;
     known = sits.known;
@@ -86,8 +86,9 @@ module _ (key : Shape) (s : table.State ℕ View) (r : Ruled key s) (id : ℕ) (
   pub start_ruled : Ruled key record { words = s.words; homes = s.homes; views = set s.views id (begun v n ops) }
   start_ruled = record {
     core = core';
-    lawful = begun_lawful key r.core r.lawful r.codable v.caller idle sits.known ops may.command left short may.values rows;
-    codable = begun_coded key r.core r.lawful r.codable v.caller idle sits.known ops may.command left short may.values rows;
+    lawful = preserves_start (lane_sizes key) r.core r.lawful v.caller ops may.command idle sits.known left;
+    codable = start_coded key r.core r.lawful r.codable v.caller idle sits.known ops may.command left short may.values;
+    draws = draws_start (lane_sizes key) r.core r.lawful r.draws v.caller idle ops;
     seat = r.seat;
     shows = r.shows;
     longest = longest_set s.views r.core.history id v (begun v n ops) at refl (alone_not v alone) r.longest;

@@ -8,26 +8,23 @@ use Rattle.bq_model.specs.declared.op.Op.{Op}
 use Rattle.bq_model.specs.declared.shape.Shape.{Shape}
 use Rattle.word_rows.specs.declared.location.Location.{Location}
 use Rattle.word_rows.specs.declared.content.Content.{Content}
-use Rattle.word_rows.specs.Fits.{coding_limits}
 use Rattle.word_rows.specs.Layout.{IsValid, index_of}
-use Rattle.word_rows.specs.Contents.{coded, Fits, CanCode}
+use Rattle.word_rows.specs.Contents.{coded, CanCode}
 use Rattle.word_rows.specs.ReadsBack.{ReadsBack}
-use Rattle.word_rows.proofs.ContentLemmas.{Fits-coding}
 use Rattle.word_rows.proofs.LayoutLemmas.{index_of-lt}
-use Rattle.core_model.specs.declared.point.Point.{Point}
-use Rattle.core_model.specs.LaneSizes.{lane_sizes}
-use Rattle.core_model.specs.Start.{first_point}
-use Rattle.core_model.specs.Step.{act, target}
-use Rattle.core_model.specs.declared.act.Act.{Act}
-use Rattle.core_model.specs.declared.act.Act.TheVariants.{Load, Store}
+use Rattle.lane_steps.specs.declared.point.Point.{Point}
+use Rattle.lane_steps.specs.LaneSizes.{lane_sizes}
+use Rattle.lane_steps.specs.Start.{first_point}
+use Rattle.lane_steps.specs.Step.{act, target}
+use Rattle.lane_steps.specs.declared.act.Act.{Act}
+use Rattle.lane_steps.specs.declared.act.Act.TheVariants.{Load}
 use Rattle.lane_rule.specs.declared.view.View.{View}
-use Rattle.core_model.specs.Act.{location}
-use Rattle.core_model.specs.Fits.{ActFits}
+use Rattle.lane_steps.specs.Act.{location}
 use Rattle.lane_rule.specs.Rule.{caller_of, Ruled}
 use Rattle.lane_rule.specs.Goes.{Goes}
 use Rattle.lane_rule.specs.Begun.{begun}
-use Rattle.lane_rule.specs.Plays.{began, began_store, IsIdle, Starts}
-use Rattle.lane_rule.proofs.Effects.{loaded, written}
+use Rattle.lane_rule.specs.Plays.{began, IsIdle, Starts}
+use Rattle.lane_rule.proofs.Effects.{loaded}
 use Rattle.lane_rule.proofs.Begun.{first_allowed}
 use Rattle.lane_rule.proofs.Single.{read_back}
 
@@ -61,19 +58,6 @@ module _ (id : TableId) (key s : Shape) (c : ℕ) (ops : List Op) (t : Point) (p
         (λ x m. sym (ap coded (loaded c t l x by))) (λ n x w less g. (n, less, x, refl, g, refl))),
   )
 
-  pub first_store_owes : (i : ℕ) (l : Location) (y : Content) (n : ℕ) → i ≡ index_of s l → act c t ≡ Store l y → n ≡ coded y
-      → (p.table_id ≡ id) × (i < id.words) × Allows (Ruled key) id.slots p.id p.me i (λ _. n) (λ _. began_store ops (step id.slots i n 0 none) p.me n)
-  first_store_owes i l y n is by packed = let on = first_on (Store l y) by in (
-    at.table,
-    inside i l is on,
-    subst (λ (j : ℕ). Allows (Ruled key) id.slots p.id p.me j (λ _. n) (λ _. began_store ops (step id.slots i n 0 none) p.me n)) (sym (here i l is on))
-        (first_allowed key id.slots p.id p.me ops at.alone at.planned at.may c at.caller t point_is (λ _. n) (λ _. began_store ops (step id.slots i n 0 none) p.me n)
-        (λ x m. packed ∙ sym (ap coded (written c t l x y by))) (λ k x w less g. (k, less, x, g, refl))),
-  )
-
-  pub first_packs : (l : Location) (y : Content) → act c t ≡ Store l y → Fits coding_limits y
-  first_packs l y by = Fits-coding key y (subst (ActFits key) by at.ready.fits).1
-
   reads : (m : ℕ) (x : Content) (q : View) → Goes (begun p.me.0 m ops) x q → (l : Location) → l ≡ target c t → (n : ℕ) (o : Option Content) → ReadsBack (CanCode l) coded n o → n ≡ coded x → o ≡ Some x
   reads m x q g l on n o back is = read_back p.me.0.shape p.me.0.caller (begun p.me.0 m ops).kept.point x n o (subst (λ (k : Location). ReadsBack (CanCode k) coded n o) (on ∙ its_word m) back) is g.found
 
@@ -87,6 +71,3 @@ module _ (id : TableId) (key s : Shape) (c : ℕ) (ops : List Op) (t : Point) (p
   first_moved q l n o r f on back is = let b = f.2 in (f.0, f.1, (b.0, b.1, subst (λ (x : Content). Goes (begun p.me.0 b.0 ops) x q.me.0) (same b.2 (sym (reads b.0 b.2 q.me.0 b.4 l on n o back b.3) ∙ is)) b.4), b.5) where
     same : (y : Content) → Some y ≡ Some r → y ≡ r
     same y e = cc e
-
-  pub first_stored : (q : Seat ℕ View) → (q.table_id ≡ p.table_id) × (q.id ≡ p.id) × ((k : ℕ) × (length p.me.0.seen ≤ k) × (x : Content) × Goes (begun p.me.0 k ops) x q.me.0 × (q.me.1 ≡ p.me.1)) → (x : Content) × Starts p ops x q
-  first_stored q f = let b = f.2 in (b.2, (f.0, f.1, (b.0, b.1, b.3), b.4))

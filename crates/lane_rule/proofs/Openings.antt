@@ -10,9 +10,10 @@ use Rattle.word_rows.specs.Layout.{IsValid}
 use Rattle.word_rows.specs.Contents.{coded}
 use Rattle.word_rows.specs.Memory.{word_at}
 use Rattle.word_rows.specs.Opening.{opening_of}
-use Rattle.core_model.specs.LaneSizes.{lane_sizes}
-use Rattle.core_model.specs.Start as begin
+use Rattle.lane_steps.specs.LaneSizes.{lane_sizes}
+use Rattle.lane_steps.specs.Start as begin
 use Rattle.core_model.proofs.Opens.{opens}
+use Rattle.row_stock.proofs.DrawSteps.{draws_open}
 use Rattle.core_model.proofs.Tables.{opens_as_its_table}
 use Rattle.core_model.proofs.CodedStarts.{opening_coded}
 use Rattle.lane_rule.specs.declared.view.View.{View}
@@ -23,6 +24,7 @@ opens_ruled key words long each = record {
   core = begin.opening (lane_sizes key);
   lawful = opens key;
   codable = opening_coded key;
+  draws = draws_open key;
   seat = λ _. 0;
   shows = record { long = long; each = λ l ok. each l ok ∙ ap coded (sym (opens_as_its_table key l)) };
   each_seat = seated;

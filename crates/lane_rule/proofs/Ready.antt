@@ -1,5 +1,5 @@
 -- What a lane's caller can do next, and what it knows when it has seen the history.
-use Rattle.std.proofs.Common.{◌≡◌, ℕ, Bool, true, false, cond, List, [], ◌∷◌, ◌++◌, sym, refl, ap, ◌∙◌, subst, arith}
+use Rattle.std.proofs.Common.{◌≡◌, ℕ, None, Bool, true, false, cond, List, [], ◌∷◌, ◌++◌, sym, refl, ap, ◌∙◌, subst, arith}
 use Rattle.std.proofs.lemmas.List.{append-nil}
 use Rattle.bq_model.specs.declared.group.Group.{Group}
 use Rattle.bq_model.specs.declared.shape.Shape.{Shape}
@@ -7,17 +7,21 @@ use Rattle.bq_model.specs.Own.{mine}
 use Rattle.bq_model.specs.Proper.{IsProper}
 use Rattle.word_rows.specs.Contents.{MayHold}
 use Rattle.word_rows.proofs.SizeLemmas.{rows_within}
-use Rattle.core_model.specs.LaneSizes.{LaneSizes, lane_sizes}
-use Rattle.core_model.specs.declared.point.Point.{Point}
-use Rattle.core_model.specs.State.{Caller, State, read}
-use Rattle.core_model.specs.Step.{target, history_after, step_at, next}
-use Rattle.core_model.specs.Start.{opening}
-use Rattle.core_model.specs.Coded.{IsCoded}
+use Rattle.lane_steps.specs.LaneSizes.{LaneSizes, lane_sizes}
+use Rattle.lane_steps.specs.declared.point.Point.{Point}
+use Rattle.lane_steps.specs.declared.point.Point.TheVariants as point
+use Rattle.lane_steps.specs.declared.point.Closing.{Closing}
+use Rattle.lane_steps.specs.declared.point.ClosePoint.TheVariants.{LoadHazard}
+use Rattle.lane_steps.specs.State.{Caller, State, read, hazard_in}
+use Rattle.lane_steps.specs.Step.{target, history_after, step_at, next}
+use Rattle.lane_steps.specs.Start.{opening}
+use Rattle.lane_steps.specs.Coded.{IsCoded}
 use Rattle.core_model.specs.Lawful.{Allowed, Lawful}
 use Rattle.core_model.specs.Ended.{EndedDone}
 use Rattle.core_model.proofs.CodedSteps.{point_valid, found_fits, acts_fit, step_coded}
 use Rattle.core_model.proofs.InRange.{counts_fit, rows_fit, shape_fits}
 use Rattle.core_model.proofs.Ends.{idle_groups, ended_done}
+use Rattle.core_model.proofs.ReadValues.{own_unnamed}
 use Rattle.lane_rule.specs.declared.view.View.{View}
 use Rattle.lane_rule.specs.Rule.{caller_of}
 use Rattle.lane_rule.specs.Goes.{Ready, Knows}
@@ -29,7 +33,7 @@ module _ (key : Shape) (s : State) (L : Lawful (lane_sizes key) s) (R : IsCoded 
   pub ready : Ready key c (s.callers c).point
   ready = let most = rows_within key in record {
     word = point_valid key s L R c;
-    rows = rows_fit z s L (omega arith) c;
+    rows = rows_fit z s L (shape_fits key) (omega arith) c;
     counts = counts_fit z s L (shape_fits key) c;
     fits = acts_fit key s L R c;
   }
@@ -41,6 +45,10 @@ module _ (key : Shape) (s : State) (L : Lawful (lane_sizes key) s) (R : IsCoded 
     pub coded_at : IsCoded key (step_at (lane_sizes key) s c t)
     unfolding next
     coded_at = subst (λ (u : Point). IsCoded key (step_at (lane_sizes key) s c u)) is (step_coded key s L R c)
+
+  -- its scan for its rows finds nothing in its own hazard word
+  pub own_is_free : (a : Closing) → (s.callers c).point ≡ point.Close a (LoadHazard c) → hazard_in (read s.memory (target c (s.callers c).point)) ≡ None
+  own_is_free a is = ap (λ (t : Point). hazard_in (read s.memory (target c t))) is ∙ own_unnamed z s L c a is
 
 -- the history grows at its end
 pub grew : (b : Bool) (h : List Group) (g : Group) → history_after b h g ≡ h ++ cond b (g ∷ []) []
@@ -66,7 +74,7 @@ pub knows : (key : Shape) (s : State) → Lawful (lane_sizes key) s → (w : Vie
 knows key s L w shape seen shown = record {
   proper = subst (λ (y : Shape × List Group). IsProper y.0.callers y.1) (λ i. (sym shape i, sym seen i)) L.history;
   own = λ idle. ap (λ (h : List Group). mine h w.caller) seen ∙ (idle_groups (lane_sizes key) s L w.caller (ap (λ (k : Caller). k.point) shown ∙ idle) ∙ ap (λ (k : Caller). k.mine) shown);
-  allowed = subst (λ (y : Shape × Caller). Allowed (lane_sizes y.0) y.1.mine y.1.ops y.1.taken y.1.stopped) (λ i. (sym shape i, shown i)) (L.callers w.caller).allowed;
+  allowed = subst (λ (y : Shape × Caller). Allowed (lane_sizes y.0) y.1.mine y.1.ops) (λ i. (sym shape i, shown i)) (L.callers w.caller).allowed;
   done = λ idle is. subst (λ (y : Shape × List Group × Caller). EndedDone record { memory = (opening (lane_sizes y.0)).memory; history = y.1; callers = λ _. y.2 } w.caller) (λ i. (sym shape i, sym seen i, shown i))
       (seen_ended s (lane_sizes key) w.caller (ended_done (lane_sizes key) s L w.caller (ap (λ (k : Caller). k.point) shown ∙ idle) (ap (λ (k : Caller). k.outcome) shown ∙ is)));
 }

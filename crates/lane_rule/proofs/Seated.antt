@@ -1,6 +1,10 @@
 -- What a step on the table owes and what it gives, for a seat that is at a point.
 use Rattle.std.proofs.Common.{◌≡◌, ℕ, ◌<◌, eqb, sym, refl, ap, ◌∙◌, subst, arith, Option, Some, IsSome}
+use Rattle.std.specs.Prelude.{bit_or}
 use mathlib.Core.Option.{none}
+use Rattle.word_rows.specs.declared.marks.Marks.{Marks}
+use Rattle.word_rows.specs.declared.location.Location.TheVariants.{Mark}
+use Rattle.word_rows.specs.Packing.{marks_word}
 use prog.Atomic.{either}
 use Rattle.atomic_table.specs.Table.{Me, Allows, step}
 use Rattle.atomic_table.specs.Seated.{TableId}
@@ -14,17 +18,17 @@ use Rattle.word_rows.specs.Contents.{coded, Fits, CanCode, MayHold}
 use Rattle.word_rows.specs.ReadsBack.{ReadsBack}
 use Rattle.word_rows.proofs.ContentLemmas.{Fits-coding}
 use Rattle.word_rows.proofs.LayoutLemmas.{index_of-lt}
-use Rattle.core_model.specs.declared.point.Point.{Point}
-use Rattle.core_model.specs.Step.{act, target}
-use Rattle.core_model.specs.declared.act.Act.{Act}
-use Rattle.core_model.specs.declared.act.Act.TheVariants.{Load, Store, Exchange}
+use Rattle.lane_steps.specs.declared.point.Point.{Point}
+use Rattle.lane_steps.specs.Step.{act, target}
+use Rattle.lane_steps.specs.declared.act.Act.{Act}
+use Rattle.lane_steps.specs.declared.act.Act.TheVariants.{Load, Store, Exchange, Join}
 use Rattle.lane_rule.specs.declared.view.View.{View}
-use Rattle.core_model.specs.Act.{location}
-use Rattle.core_model.specs.Fits.{ActFits}
+use Rattle.lane_steps.specs.Act.{location}
+use Rattle.lane_steps.specs.Fits.{ActFits}
 use Rattle.lane_rule.specs.Rule.{Ruled}
 use Rattle.lane_rule.specs.Goes.{Goes}
 use Rattle.lane_rule.specs.Plays.{found, wrote, IsAt, Moves}
-use Rattle.lane_rule.proofs.Single.{load_allowed, store_allowed, exchange_allowed, read_back}
+use Rattle.lane_rule.proofs.Single.{load_allowed, store_allowed, exchange_allowed, join_allowed, read_back}
 
 module _ (id : TableId) (key s : Shape) (c : ℕ) (t : Point) (p : Seat ℕ View) (at : IsAt id key s c t p) where
   -- the step of the seat's view is that of the caller at the point
@@ -87,6 +91,14 @@ module _ (id : TableId) (key s : Shape) (c : ℕ) (t : Point) (p : Seat ℕ View
     inside i l is (on (Exchange l e y) by),
     subst (λ (j : ℕ). Allows (Ruled key) id.slots p.id p.me j (λ n. either (eqb n old) new n) (found (step id.slots j old new none) p.me)) (sym (here i l is (on (Exchange l e y) by)))
         (exchange_allowed key id.slots p.id p.me at.alone at.planned l e y old new (its_act ∙ by) (subst (λ (k : Location). MayHold key k e) (on (Exchange l e y) by ∙ its_word) (exchange_fits l e y by).0) packed packed'),
+  )
+
+  pub join_owes : (i r : ℕ) (b : Marks) (n : ℕ) → i ≡ index_of s (Mark r) → act c t ≡ Join r b → n ≡ marks_word b
+      → (p.table_id ≡ id) × (i < id.words) × Allows (Ruled key) id.slots p.id p.me i (λ k. bit_or k n) (found (step id.slots i n 0 none) p.me)
+  join_owes i r b n is by packed = (
+    at.table,
+    inside i (Mark r) is (on (Join r b) by),
+    subst (λ (j : ℕ). Allows (Ruled key) id.slots p.id p.me j (λ k. bit_or k n) (found (step id.slots j n 0 none) p.me)) (sym (here i (Mark r) is (on (Join r b) by))) (join_allowed key id.slots p.id p.me at.alone at.planned r b n (its_act ∙ by) packed),
   )
 
   -- what was found, read back

@@ -11,12 +11,12 @@ use Rattle.atomic_table.specs.Table.{Me, keeps, Splits, Joins, Allows}
 use Rattle.atomic_table.proofs.Lists.{at_set, set_else, at_longer}
 use Rattle.bq_model.specs.declared.group.Group.{Group}
 use Rattle.bq_model.specs.declared.shape.Shape.{Shape}
-use Rattle.core_model.specs.Functions.{put}
+use Rattle.lane_steps.specs.Functions.{put}
 use Rattle.bq_model.specs.Own.{mine as mine_of}
 use Rattle.bq_model.specs.Proper.{IsProper}
-use Rattle.core_model.specs.LaneSizes.{lane_sizes}
-use Rattle.core_model.specs.declared.point.Point.TheVariants.{Idle}
-use Rattle.core_model.specs.State.{Caller, State}
+use Rattle.lane_steps.specs.LaneSizes.{lane_sizes}
+use Rattle.lane_steps.specs.declared.point.Point.TheVariants.{Idle}
+use Rattle.lane_steps.specs.State.{Caller, State}
 use Rattle.core_model.proofs.Ends.{idle_groups}
 use Rattle.lane_rule.specs.declared.view.Kept.{Kept}
 use Rattle.core_model.proofs.Puts.{put_here, put_else}
@@ -63,6 +63,7 @@ makes key id v is room s r at = record {
   lawful = r.lawful;
   seat = seat';
   codable = r.codable;
+  draws = r.draws;
   shows = r.shows;
   longest = later (longest_set s.views r.core.history id v (made v) at refl maker_not r.longest);
   each_seat = λ j u e. ⊎_elim (λ (t : get_elem? (set s.views id (made v)) j ≡ some u). old j u t) (λ (t : (newcomer_of v ≡ u) × (j ≡ length (set s.views id (made v)))). subst (Sits key r.core seat' j) t.0 (new j (t.1 ∙ length-set s.views id (made v))))
@@ -127,6 +128,7 @@ gathers key sh id other v w iv iw hv hw s r at ne at' = record {
   lawful = r.lawful;
   seat = rejoined r.seat id other;
   codable = r.codable;
+  draws = r.draws;
   shows = r.shows;
   each_seat = λ j u e. ⊎_elim (λ (t : (j ≡ other) × (spent sh ≡ u)). subst (Sits key r.core (rejoined r.seat id other) j) t.1 refl)
       (λ (t : (j ≢ other) × (get_elem? (set s.views id (joined v w)) j ≡ some u)). rest j u t.0 t.1) (at_set (set s.views id (joined v w)) other j (spent sh) u e);
@@ -194,6 +196,7 @@ learns key slots id me is s r _ at _ = let w : View = caught_up me.0 r.core.hist
     lawful = r.lawful;
     seat = r.seat;
     codable = r.codable;
+    draws = r.draws;
     shows = r.shows;
     longest = (id, w, set_there s.views id me.0 w at, inl refl);
     each_seat = λ j u e. ⊎_elim (λ (t : (j ≡ id) × (w ≡ u)). subst (λ (y : ℕ × View). Sits key r.core r.seat y.0 y.1) (λ i. (sym t.0 i, t.1 i)) (subst (λ (k : Kind). SitsAs key r.core r.seat id k w) (sym is) (mine.0, ([], sym (append-nil r.core.history)), (r.core.history, refl), mine.3, mine.4)))

@@ -1,29 +1,28 @@
 -- What a step tells its caller.
-use Rattle.std.specs.Prelude.{◌≡◌, ℕ, suc, ◌<◌, [], length, Some}
+use Rattle.std.specs.Prelude.{◌≡◌, ℕ, ◌<◌, [], length, Some, None}
 use Rattle.bq_model.specs.declared.shape.Shape.{Shape}
 use Rattle.word_rows.specs.declared.content.Content.{Content}
 use Rattle.word_rows.specs.Layout.{IsValid}
 use Rattle.word_rows.specs.Contents.{MayHold}
-use Rattle.core_model.specs.declared.point.Point.{Point}
-use Rattle.core_model.specs.declared.point.Point.TheVariants as point
-use Rattle.core_model.specs.declared.point.AnswerPoint.TheVariants as answer
-use Rattle.core_model.specs.declared.point.ManyPoint.TheVariants as many
-use Rattle.core_model.specs.declared.point.FillPoint.TheVariants as fill
-use Rattle.core_model.specs.declared.point.Notice.{Notice}
-use Rattle.core_model.specs.declared.point.Plan.{Plan}
-use Rattle.core_model.specs.LaneSizes.{lane_sizes}
-use Rattle.core_model.specs.State.{State}
-use Rattle.core_model.specs.Step.{act, target, after}
-use Rattle.core_model.specs.Start.{opening}
-use Rattle.core_model.specs.Ranges.{RowsFit, CountsFit}
-use Rattle.core_model.specs.declared.point.CallEnd.TheVariants.{Done}
+use Rattle.lane_steps.specs.declared.point.Point.{Point}
+use Rattle.lane_steps.specs.declared.point.Point.TheVariants as point
+use Rattle.lane_steps.specs.declared.point.ClosePoint.TheVariants as close
+use Rattle.lane_steps.specs.declared.point.Closing.{Closing}
+use Rattle.lane_steps.specs.LaneSizes.{lane_sizes}
+use Rattle.lane_steps.specs.State.{State, hazard_in}
+use Rattle.lane_steps.specs.Step.{act, target, after}
+use Rattle.lane_steps.specs.Start.{opening}
+use Rattle.lane_steps.specs.Ranges.{RowsFit, CountsFit}
+use Rattle.lane_steps.specs.declared.point.CallEnd.TheVariants.{Done, Full}
+use Rattle.core_model.specs.Few.{ListsFit}
+use Rattle.row_stock.specs.Draws.{LacksRows}
 use Rattle.core_model.specs.Lawful.{Allowed}
 use Rattle.core_model.specs.Ended.{EndedDone}
 use Rattle.bq_model.specs.Proper.{IsProper}
 use Rattle.bq_model.specs.Own.{mine}
 use Rattle.lane_rule.specs.declared.view.View.{View}
 use Rattle.lane_rule.specs.declared.view.Kind.TheVariants.{Alone}
-use Rattle.core_model.specs.Fits.{ActFits}
+use Rattle.lane_steps.specs.Fits.{ActFits}
 use Rattle.lane_rule.specs.Rule.{caller_of, Begins}
 
 -- the next step of caller c at this point touches a word of the lane, and what it writes can stand there
@@ -41,8 +40,7 @@ seen_by v = record { memory = (opening (lane_sizes v.shape)).memory; history = v
 pub record Knows (v : View) : Type 0 where
   pub proper : IsProper v.shape.callers v.seen
   pub own : v.kept.point ≡ point.Idle → mine v.seen v.caller ≡ v.kept.mine
-  -- its rows are counted by its groups
-  pub allowed : Allowed (lane_sizes v.shape) v.kept.mine v.kept.ops v.kept.taken v.kept.stopped
+  pub allowed : Allowed (lane_sizes v.shape) v.kept.mine v.kept.ops
   pub done : v.kept.point ≡ point.Idle → v.kept.outcome ≡ Some Done → EndedDone (seen_by v) v.caller
 
 -- the caller's next point, after its word contained x
@@ -54,10 +52,11 @@ pub record Goes (v : View) (x : Content) (w : View) : Type 0 where
   pub later : Begins v.seen w.seen
   pub heard : w.heard ≡ []
   pub found : MayHold v.shape (target v.caller v.kept.point) x
+  -- in its scan for rows it finds nothing in its own hazard word
+  pub own_word : (a : Closing) → v.kept.point ≡ point.Close a (close.LoadHazard v.caller) → hazard_in x ≡ None
+  -- where its command ends with Full, a row is lacking for that behind those of its ended commands
+  pub full : 0 < length v.kept.ops → w.kept.point ≡ point.Idle → w.kept.outcome ≡ Some Full → LacksRows (lane_sizes v.shape) v.kept.mine v.kept.ops
   pub ready : Ready w.shape w.caller w.kept.point
   pub knows : Knows w
-  -- where it reads a value, there is a dequeue that gets it
-  pub reads : (m r l : ℕ) → w.kept.point ≡ point.Answer (answer.LoadValue m r l) → length w.kept.values < length w.kept.ops
-  pub walks : (d : Plan) (r l : ℕ) → w.kept.point ≡ point.Many d (many.LoadValue r l) → length w.kept.values < length w.kept.ops
-  -- it loads the hazard word of a caller of the lane, and has found fewer announcements named than there are others
-  pub hears : (n : Notice) (e : ℕ) → w.kept.point ≡ point.Fill n (fill.LoadHazard e) → (e < w.shape.callers) × (suc (length w.kept.named) < w.shape.callers)
+  -- what it keeps in its lists fits its next point
+  pub lists : ListsFit w.shape.callers (caller_of w.kept)

@@ -7,22 +7,22 @@ use Rattle.bq_model.specs.declared.shape.Shape.{Shape}
 use Rattle.word_rows.specs.declared.content.Content.{Content}
 use Rattle.word_rows.specs.Contents.{coded}
 use Rattle.word_rows.specs.Sizes.{words_of}
-use Rattle.core_model.specs.declared.point.Point.{Point}
+use Rattle.lane_steps.specs.declared.point.Point.{Point}
 use Rattle.lane_rule.specs.declared.view.View.{View}
 use Rattle.lane_rule.specs.declared.view.Kind.TheVariants.{Alone, Gathered}
 use Rattle.lane_rule.specs.Goes.{Ready, Goes}
 use Rattle.bq_model.specs.Own.{mine}
 use Rattle.bq_model.specs.Proper.{IsProper}
-use Rattle.core_model.specs.declared.point.Point.TheVariants.{Idle}
+use Rattle.lane_steps.specs.declared.point.Point.TheVariants.{Idle}
 use Rattle.lane_rule.specs.declared.view.Kept.{Kept}
 use Rattle.lane_rule.specs.Seating.{Holds}
 use Rattle.bq_model.specs.declared.op.Op.{Op}
-use Rattle.core_model.specs.LaneSizes.{lane_sizes}
-use Rattle.core_model.specs.Start.{first_point}
+use Rattle.lane_steps.specs.LaneSizes.{lane_sizes}
+use Rattle.lane_steps.specs.Start.{first_point}
 use Rattle.lane_rule.specs.Rule.{caller_of, Begins}
 use Rattle.lane_rule.specs.Begun.{MayStart, begun}
 
--- a load or an exchange found x
+-- a load, an exchange or a join found x
 abbrev pub found : Step ℕ → Me ℕ View → ℕ → Me ℕ View → Type 0
 found st me n me' = (x : Content) × (n ≡ coded x) × Goes me.0 x me'.0 × (me'.1 ≡ me.1)
 
@@ -45,12 +45,9 @@ pub record IsAt (id : TableId) (key : Shape) (s : Shape) (c : ℕ) (t : Point) (
 abbrev pub Moves : Seat ℕ View → Content → Seat ℕ View → Type 0
 Moves p x q = (q.table_id ≡ p.table_id) × (q.id ≡ p.id) × Goes p.me.0 x q.me.0 × (q.me.1 ≡ p.me.1)
 
--- the first step of a command, which is a load or a store
+-- the first step of a command, which is a load
 abbrev pub began : List Op → Step ℕ → Me ℕ View → ℕ → Me ℕ View → Type 0
 began ops st me n me' = (m : ℕ) × (length me.0.seen ≤ m) × (x : Content) × (n ≡ coded x) × Goes (begun me.0 m ops) x me'.0 × (me'.1 ≡ me.1)
-
-abbrev pub began_store : List Op → Step ℕ → Me ℕ View → ℕ → Me ℕ View → Type 0
-began_store ops st me n me' = (m : ℕ) × (length me.0.seen ≤ m) × (x : Content) × Goes (begun me.0 m ops) x me'.0 × (me'.1 ≡ me.1)
 
 -- The seat is that of this one idle caller of this lane, whose command of these operations begins at this point.
 pub record IsIdle (id : TableId) (key : Shape) (s : Shape) (c : ℕ) (ops : List Op) (t : Point) (p : Seat ℕ View) : Type 0 where

@@ -7,11 +7,12 @@ use Rattle.atomic_table.specs.Table as table
 use Rattle.bq_model.specs.declared.group.Group.{Group}
 use Rattle.bq_model.specs.declared.shape.Shape.{Shape}
 use Rattle.word_rows.specs.Memory.{Shows}
-use Rattle.core_model.specs.LaneSizes.{lane_sizes}
-use Rattle.core_model.specs.State.{Caller, State, read}
-use Rattle.core_model.specs.Start.{newcomer}
+use Rattle.lane_steps.specs.LaneSizes.{lane_sizes}
+use Rattle.lane_steps.specs.State.{Caller, State, read}
+use Rattle.lane_steps.specs.Start.{newcomer}
 use Rattle.core_model.specs.Lawful.{Lawful}
-use Rattle.core_model.specs.Coded.{IsCoded}
+use Rattle.lane_steps.specs.Coded.{IsCoded}
+use Rattle.row_stock.specs.Draws.{Draws}
 use Rattle.lane_rule.specs.declared.view.View.{View}
 use Rattle.lane_rule.specs.declared.view.Kept.{Kept}
 use Rattle.lane_rule.specs.declared.view.Held.{Held}
@@ -20,10 +21,10 @@ use Rattle.lane_rule.specs.declared.view.Kind.TheVariants.{Maker, Alone, Gathere
 
 -- what a view keeps of a caller, as the machine keeps it, and the other way round
 abbrev pub caller_of : Kept → Caller
-caller_of k = record { point = k.point; ops = k.ops; mine = k.mine; taken = k.taken; stopped = k.stopped; values = k.values; named = k.named; hold = k.hold; outcome = k.outcome; answers = k.answers; started_at = k.started_at; ended_at = k.ended_at }
+caller_of k = record { point = k.point; ops = k.ops; mine = k.mine; rows = k.rows; values = k.values; walked = k.walked; retired = k.retired; named = k.named; row_hold = k.row_hold; hold = k.hold; outcome = k.outcome; answers = k.answers; started_at = k.started_at; ended_at = k.ended_at }
 
 abbrev pub kept_of : Caller → Kept
-kept_of k = record { point = k.point; ops = k.ops; mine = k.mine; taken = k.taken; stopped = k.stopped; values = k.values; named = k.named; hold = k.hold; outcome = k.outcome; answers = k.answers; started_at = k.started_at; ended_at = k.ended_at }
+kept_of k = record { point = k.point; ops = k.ops; mine = k.mine; rows = k.rows; values = k.values; walked = k.walked; retired = k.retired; named = k.named; row_hold = k.row_hold; hold = k.hold; outcome = k.outcome; answers = k.answers; started_at = k.started_at; ended_at = k.ended_at }
 
 abbrev pub Begins : List Group → List Group → Type 0
 Begins seen history = (rest : List Group) × (history ≡ seen ++ rest)
@@ -65,6 +66,8 @@ pub record Ruled (key : Shape) (s : table.State ℕ View) : Type 0 where
   pub core : State
   pub lawful : Lawful (lane_sizes key) core
   pub codable : IsCoded key core
+  -- which commands took the rows of each caller
+  pub draws : Draws (lane_sizes key) core
   -- each word is the code of what the state has there
   pub shows : Shows key s.words (read core.memory)
   -- each caller has a seat, and the seat's view shows what the state has of it

@@ -1,14 +1,14 @@
 // One step of the machine on the table of a lane.
 ghost use Rattle.std.specs.Prelude.{◌≡◌, ◌<◌, ◌^◌};
 ghost use Rattle.word_rows.specs.declared.content.Content.{Content};
-ghost use Rattle.core_model.specs.Step.{act};
+ghost use Rattle.lane_steps.specs.Step.{act};
 ghost use Rattle.lane_rule.specs.Plays.{IsAt, IsIdle, Moves, Starts};
 
-use crate::view::{Command, Finds, FirstFinds, FirstStores, LaneRule, Stores, View};
+use crate::view::{Command, Finds, FirstFinds, LaneRule, Stores, View};
 use atomic_table::{Seat, Shared};
 use bq_model::Shape;
-use core_model::{Act, Point};
-use word_rows::{Content, Location};
+use lane_steps::{Act, Point};
+use word_rows::{Content, Location, Marks};
 
 /// The table of a lane, as its callers share it.
 pub type Words = Shared<u64, View, Shape, LaneRule>;
@@ -74,6 +74,25 @@ fn exchange(
     Content::unpack(location, found).unwrap()
 }
 
+// Marks of a row set, which gives what it found.
+fn join(
+    words: &Words,
+    shape: &Shape,
+    caller: u32,
+    token: &mut Token,
+    point: Point,
+    row: u32,
+    marks: Marks,
+) -> Content
+    requires at { IsAt words.now.table_id words.now.key shape.now caller point token.old }
+    requires join { act caller point ≡ Act.Join row marks }
+    ensures { Moves token.old result token.new }
+{
+    let location = Location::Mark { row };
+    let found = words.fetch_or::<Finds>(token, location.index(shape) as usize, marks.pack());
+    Content::unpack(location, found).unwrap()
+}
+
 /// The next step of this caller, whose token it is and which is at this point. Gives what the step found; a store gives what it stored.
 pub fn step(words: &Words, shape: &Shape, caller: u32, token: &mut Token, point: Point) -> Content
     requires { IsAt words.now.table_id words.now.key shape.now caller point token.old }
@@ -88,6 +107,7 @@ pub fn step(words: &Words, shape: &Shape, caller: u32, token: &mut Token, point:
         Act::Exchange(location, old, new) => {
             exchange(words, shape, caller, token, point, location, old, new)
         }
+        Act::Join { row, marks } => join(words, shape, caller, token, point, row, marks),
     }
 }
 
@@ -108,25 +128,8 @@ fn first_load<C: Command>(
     Content::unpack(location, found).unwrap()
 }
 
-// A store that starts a command.
-fn first_store<C: Command>(
-    words: &Words,
-    shape: &Shape,
-    caller: u32,
-    token: &mut Token,
-    point: Point,
-    location: Location,
-    new: Content,
-)
-    requires idle { IsIdle words.now.table_id words.now.key shape.now caller C.ops point token.old }
-    requires store { act caller point ≡ Act.Store location new }
-    ensures { (found : Content) × Starts token.old C.ops found token.new }
-{
-    words.store::<FirstStores<C>>(token, location.index(shape) as usize, new.pack());
-}
-
 /// The start of a command of this idle caller, which begins at this point, and its first step, both in one. Gives
-/// what the step found or stored.
+/// what the step found.
 pub fn first_step<C: Command>(
     words: &Words,
     shape: &Shape,
@@ -139,10 +142,6 @@ pub fn first_step<C: Command>(
 {
     match point.act(caller) {
         Act::Load(location) => first_load::<C>(words, shape, caller, token, point, location),
-        Act::Store(location, new) => {
-            first_store::<C>(words, shape, caller, token, point, location, new);
-            new
-        }
-        Act::Exchange(..) => unreachable!(),
+        Act::Store(..) | Act::Exchange(..) | Act::Join { .. } => unreachable!(),
     }
 }

@@ -4,7 +4,7 @@ ghost use Rattle.bq_model.specs.declared.op.Op.{Op};
 
 use atomic_table::{Join, Play, Split, TableRule};
 use bq_model::{Answer, Group, Op, Shape};
-use core_model::{CallEnd, Hold, Point};
+use lane_steps::{CallEnd, Hold, Point};
 use std::collections::LinkedList;
 use std::marker::{Brand, PhantomData};
 
@@ -25,10 +25,12 @@ pub struct Kept {
     pub point: Point,
     pub ops: LinkedList<Op>,
     pub mine: LinkedList<Group>,
-    pub taken: u64,
-    pub stopped: u64,
+    pub rows: LinkedList<u64>,
     pub values: LinkedList<u64>,
+    pub walked: LinkedList<u64>,
+    pub retired: LinkedList<u64>,
     pub named: LinkedList<u64>,
+    pub row_hold: Hold,
     pub hold: Hold,
     pub outcome: Option<CallEnd>,
     pub answers: LinkedList<Answer>,
@@ -67,7 +69,7 @@ impl TableRule<u64, View, Shape> for LaneRule {
     ghost first = { opened };
 }
 
-/// What a load or an exchange tells: the machine's step on what it found.
+/// What a load, an exchange or a join tells: the machine's step on what it found.
 pub struct Finds;
 
 impl Play<u64, View> for Finds {
@@ -94,7 +96,7 @@ impl Command for Brand {
     ghost ops = { [] };
 }
 
-/// What a first step tells that is a load.
+/// What the first step of a command tells, which is a load.
 pub struct FirstFinds<C: Command> {
     of: PhantomData<C>,
 }
@@ -103,17 +105,6 @@ impl<C: Command> Play<u64, View> for FirstFinds<C> {
     ghost use Rattle.lane_rule.specs.Plays.{began};
 
     ghost then = { began C.ops };
-}
-
-/// What a first step tells that is a store.
-pub struct FirstStores<C: Command> {
-    of: PhantomData<C>,
-}
-
-impl<C: Command> Play<u64, View> for FirstStores<C> {
-    ghost use Rattle.lane_rule.specs.Plays.{began_store};
-
-    ghost then = { began_store C.ops };
 }
 
 /// The maker makes one more caller.

@@ -55,6 +55,13 @@ impl Retired {
         self.rows.push_reserved(row);
     }
 
+    /// The first row that is none of these.
+    pub fn first_unheld(&self, held: &[u32]) -> Option<u32>
+        ensures first_unheld_is_told { result ≡ first_unheld held.now self.now.items }
+    {
+        self.rows.iter().copied().find(|row| !held.contains(row))
+    }
+
     /// Takes out the first row that is none of these.
     pub fn take_unheld(&mut self, held: &[u32]) -> Option<u32>
         ensures first_unheld_is_given { result ≡ first_unheld held.now self.old.items }

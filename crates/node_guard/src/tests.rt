@@ -80,6 +80,8 @@ fn rows_come_out_in_order_but_for_those_that_are_held(rt: HostRuntime) -> Result
     assert_eq!(rt; worked.take_unheld(&[7]), Some(8));
     assert_eq!(rt; worked.take_unheld(&[7]), None);
     let mut retired = retired_of(rt.alloc(), &[5, 9, 7])?;
+    assert_eq!(rt; retired.first_unheld(&[5]), Some(9));
+    assert_eq!(rt; retired.first_unheld(&[9, 5, 7]), None);
     assert_eq!(rt; retired.take_unheld(&[5]), Some(9));
     assert_eq!(rt; retired.len(), 2);
     assert_eq!(rt; retired.take_unheld(&[5, 7]), None);

@@ -1,5 +1,5 @@
 -- The calls' list as a function of the caller, and the parts of a step and of a start put together.
-use Rattle.std.proofs.Common.{◌≡◌, ℕ, zero, suc, ◌+◌, ◌<◌, Bool, true, false, cond, List, [], ◌∷◌, length, map, slice_index_or, slice_set, sum_by, sym, refl, ap, ◌∙◌, arith, get_or-set_same, get_or-set_other, slice_get, Some}
+use Rattle.std.proofs.Common.{◌≡◌, ℕ, zero, suc, ◌+◌, ◌<◌, List, [], ◌∷◌, length, map, slice_index_or, slice_set, sum_by, sym, refl, ap, ◌∙◌, arith, get_or-set_same, get_or-set_other, slice_get, Some}
 use Rattle.std.proofs.lemmas.List.{map-set, get_or-map, length-map}
 use Rattle.std.proofs.lemmas.List.Sums.{sum_by-set}
 use Rattle.std.specs.declared.vec.Vec.{Vec}
@@ -7,13 +7,13 @@ use Rattle.std.specs.declared.alloc.Global.{Global}
 use Rattle.bq_model.specs.declared.group.Group.{Group}
 use Rattle.word_rows.specs.declared.location.Location.{Location}
 use Rattle.word_rows.specs.declared.content.Content.{Content}
-use Rattle.core_model.specs.declared.point.Point.{Point}
-use Rattle.core_model.specs.Functions.{put}
-use Rattle.core_model.specs.State.{Caller, State, read, write}
-use Rattle.core_model.specs.Step.{target, stored, history_with, after, step_at, next}
+use Rattle.lane_steps.specs.declared.point.Point.{Point}
+use Rattle.lane_steps.specs.Functions.{put}
+use Rattle.lane_steps.specs.State.{Caller, State, read, write}
+use Rattle.lane_steps.specs.Step.{target, stored, history_with, after, step_at, next}
 use Rattle.bq_model.specs.declared.op.Op.{Op}
-use Rattle.core_model.specs.LaneSizes.{lane_sizes}
-use Rattle.core_model.specs.Start.{newcomer, has_rows, started, refused, start}
+use Rattle.lane_steps.specs.LaneSizes.{lane_sizes}
+use Rattle.lane_steps.specs.Start.{newcomer, begun, start}
 use Rattle.core_model.proofs.Puts.{put_all, put_same, put_here}
 use Rattle.step_core.specs.declared.call.Call.{Call}
 use Rattle.step_core.specs.declared.words.Words.{Words}
@@ -80,27 +80,16 @@ get_set (x ∷ ks) zero k below = refl
 get_set (x ∷ ks) (suc c) k below = get_set ks c k (omega arith)
 
 -- a command that begins on lists which show the same lane
-pub begun_is : (a r e : Lists) (c n : ℕ) (ops : List Op) → state_of r ≡ state_of a → r.shape ≡ a.shape → n ≡ length r.history.items → has_rows (lane_sizes a.shape) (callers_of a.calls.items c) ops ≡ true
+pub begun_is : (a r e : Lists) (c n : ℕ) (ops : List Op) → state_of r ≡ state_of a → r.shape ≡ a.shape → n ≡ length r.history.items
     → (state_of e).memory ≡ (state_of r).memory → (state_of e).history ≡ (state_of r).history
-    → callers_of e.calls.items ≡ put (callers_of r.calls.items) c (started (lane_sizes r.shape) n c (callers_of r.calls.items c) ops) → state_of e ≡ start (lane_sizes a.shape) (state_of a) c ops
-begun_is a r e c n ops same shape now rows memory history callers = λ i. record {
+    → callers_of e.calls.items ≡ put (callers_of r.calls.items) c (begun (lane_sizes r.shape) n c (callers_of r.calls.items c) ops) → state_of e ≡ start (lane_sizes a.shape) (state_of a) c ops
+begun_is a r e c n ops same shape now memory history callers = λ i. record {
   memory = (memory ∙ ap (λ (s : State). s.memory) same) i;
   history = (history ∙ ap (λ (s : State). s.history) same) i;
-  callers = (callers ∙ (begun ∙ ap (λ (b : Bool). put (callers_of a.calls.items) c (cond b (started (lane_sizes a.shape) (length a.history.items) c (callers_of a.calls.items c) ops) (refused (lane_sizes a.shape) (length a.history.items) c (callers_of a.calls.items c)))) (sym rows))) i;
+  callers = (callers ∙ begins) i;
 } where
   count : n ≡ length a.history.items
   count = now ∙ ap (λ (s : State). length s.history) same
 
-  begun : put (callers_of r.calls.items) c (started (lane_sizes r.shape) n c (callers_of r.calls.items c) ops) ≡ put (callers_of a.calls.items) c (started (lane_sizes a.shape) (length a.history.items) c (callers_of a.calls.items c) ops)
-  begun = λ i. put (same i).callers c (started (lane_sizes (shape i)) (count i) c ((same i).callers c) ops)
-
--- one that ends with Full at once
-pub refused_is : (a e : Lists) (c n : ℕ) (ops : List Op) → n ≡ length a.history.items → has_rows (lane_sizes a.shape) (callers_of a.calls.items c) ops ≡ false
-    → (state_of e).memory ≡ (state_of a).memory → (state_of e).history ≡ (state_of a).history
-    → callers_of e.calls.items ≡ put (callers_of a.calls.items) c (refused (lane_sizes a.shape) n c (callers_of a.calls.items c)) → state_of e ≡ start (lane_sizes a.shape) (state_of a) c ops
-refused_is a e c n ops now rows memory history callers = λ i. record {
-  memory = memory i;
-  history = history i;
-  callers = (callers ∙ ((λ j. put (callers_of a.calls.items) c (refused (lane_sizes a.shape) (now j) c (callers_of a.calls.items c)))
-      ∙ ap (λ (b : Bool). put (callers_of a.calls.items) c (cond b (started (lane_sizes a.shape) (length a.history.items) c (callers_of a.calls.items c) ops) (refused (lane_sizes a.shape) (length a.history.items) c (callers_of a.calls.items c)))) (sym rows))) i;
-}
+  begins : put (callers_of r.calls.items) c (begun (lane_sizes r.shape) n c (callers_of r.calls.items c) ops) ≡ put (callers_of a.calls.items) c (begun (lane_sizes a.shape) (length a.history.items) c (callers_of a.calls.items c) ops)
+  begins = λ i. put (same i).callers c (begun (lane_sizes (shape i)) (count i) c ((same i).callers c) ops)

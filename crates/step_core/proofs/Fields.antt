@@ -1,13 +1,16 @@
 -- Lists of words as functions, and stores into the words of an announcement.
-use Rattle.std.proofs.Common.{◌≡◌, ◌≢◌, ℕ, zero, suc, ◌<◌, List, [], ◌∷◌, length, get_or, set, replicate, refl, ap, ◌∙◌, arith, get_or-set_same, get_or-set_other}
+use Rattle.std.proofs.Common.{◌≡◌, ◌≢◌, Bool, true, false, not, ℕ, zero, suc, ◌<◌, List, [], ◌∷◌, length, get_or, set, replicate, refl, sym, ap, ◌∙◌, arith, get_or-set_same, get_or-set_other}
+use Rattle.std.proofs.Math.Dec.{eqb-suc-zero}
 use Rattle.std.specs.Vec.{with_item}
+use Rattle.word_rows.specs.Opening.{opening_marks}
+use Rattle.word_rows.specs.declared.marks.Marks.{Marks}
 use Rattle.word_rows.specs.declared.location.AnnField.{AnnField}
 use Rattle.word_rows.specs.declared.location.AnnField.TheVariants.{OldHead, OldTail, First, Last, Counts, BatchNo, Order0, Order1, Order2, Order3}
 use Rattle.word_rows.specs.declared.content.Content.{Content}
-use Rattle.core_model.specs.declared.point.Notice.{Notice}
-use Rattle.core_model.specs.Functions.{put}
-use Rattle.core_model.specs.Notices.{with_field, blank}
-use Rattle.core_model.specs.State.{write_field}
+use Rattle.lane_steps.specs.declared.point.Notice.{Notice}
+use Rattle.lane_steps.specs.Functions.{put}
+use Rattle.lane_steps.specs.Notices.{with_field, blank}
+use Rattle.lane_steps.specs.State.{write_field, marks}
 use Rattle.core_model.proofs.Puts.{put_all}
 use Rattle.step_core.specs.declared.words.Words.{Words}
 use Rattle.step_core.specs.Words.{memory_of}
@@ -24,6 +27,22 @@ same_at (x ∷ xs) (suc i) d e below = same_at xs i d e (omega arith)
 
 pub set_put : {A : Type 0} → (xs : List A) (i : ℕ) (y d : A) → i < length xs → (λ j. get_or (set xs i y) j d) ≡ put (λ j. get_or xs j d) i y
 set_put xs i y d below = λ k j. put_all (λ j. get_or xs j d) i y (λ j v. get_or (set xs i y) j d ≡ v) (get_or-set_same xs i y d below) (λ j apart. get_or-set_other xs i j y d apart) j k
+
+-- the same of a list whose default goes by the place
+pub set_put_by : {A : Type 0} → (xs : List A) (i : ℕ) (y : A) (d : ℕ → A) → i < length xs → (λ j. get_or (set xs i y) j (d j)) ≡ put (λ j. get_or xs j (d j)) i y
+set_put_by xs i y d below = λ k j. put_all (λ j. get_or xs j (d j)) i y (λ j v. get_or (set xs i y) j (d j) ≡ v) (get_or-set_same xs i y (d i) below) (λ j apart. get_or-set_other xs i j y (d j) apart) j k
+
+abbrev both_free : Marks
+both_free = marks true true true
+
+-- all rows are free but the first one
+unused : (r : ℕ) → both_free ≡ opening_marks (suc r)
+unused r = ap (λ (b : Bool). marks true (not b) (not b)) (sym (eqb-suc-zero r))
+
+pub opening_all : (n : ℕ) → 0 < n → (r : ℕ) → get_or (set (replicate n both_free) 0 (marks true false false)) r (opening_marks r) ≡ opening_marks r
+opening_all zero some r = absurd (let e : ⊥ = omega arith in e)
+opening_all (suc n) some zero = refl
+opening_all (suc n) some (suc r) = ap (get_or (replicate n both_free) r) (sym (unused r)) ∙ (all_same n r both_free ∙ unused r)
 
 pub notice_written : (w : Words) (a : ℕ) (f : AnnField) (x : Content) (old new : Notice) → a < length w.notices.items → f ≢ OldTail → old ≡ get_or w.notices.items a old → new ≡ with_field old f x
     → memory_of (record w { notices = with_item w.notices a new }) ≡ write_field (memory_of w) a f x

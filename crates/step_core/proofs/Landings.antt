@@ -1,5 +1,5 @@
 -- How many groups there are and will be, and whose group a step adds.
-use Rattle.std.proofs.Common.{◌≡◌, ◌≢◌, ⊎_elim, ℕ, suc, ◌+◌, ◌<◌, ◌≤◌, Bool, true, false, cond, List, [], ◌∷◌, ◌++◌, length, All, refl, sym, ap, ◌∙◌, subst, arith}
+use Rattle.std.proofs.Common.{◌≡◌, ◌≢◌, ◌⊎◌, ⊎_elim, ℕ, suc, ◌+◌, ◌<◌, ◌≤◌, Bool, true, false, cond, List, [], ◌∷◌, ◌++◌, length, All, refl, sym, ap, ◌∙◌, subst, arith}
 use Rattle.std.proofs.lemmas.List.{append-nil, length-append}
 use Rattle.std.proofs.Math.Seq.{get_or-append_seam}
 use Rattle.std.proofs.lemmas.List.Elements.{recursion_from_All}
@@ -7,11 +7,11 @@ use mathlib.Core.Logic.{dite}
 use native.Mathlib.Decide.{ℕ_discrete}
 use Rattle.bq_model.specs.declared.group.Group.{Group}
 use Rattle.bq_model.specs.Own.{mine}
-use Rattle.core_model.specs.declared.point.Point.{Point}
-use Rattle.core_model.specs.declared.point.Point.TheVariants.{Idle}
-use Rattle.core_model.specs.LaneSizes.{LaneSizes}
-use Rattle.core_model.specs.State.{Caller, State, read, own_group}
-use Rattle.core_model.specs.Step.{target, linearizes, added_by, group_owner, next}
+use Rattle.lane_steps.specs.declared.point.Point.{Point}
+use Rattle.lane_steps.specs.declared.point.Point.TheVariants.{Idle}
+use Rattle.lane_steps.specs.LaneSizes.{LaneSizes}
+use Rattle.lane_steps.specs.State.{Caller, State, read, own_group}
+use Rattle.lane_steps.specs.Step.{target, linearizes, added_by, group_owner, next}
 use Rattle.core_model.specs.Lawful.{Lawful}
 use Rattle.core_model.proofs.Groups.{mine-push_own, mine-push_other}
 use Rattle.core_model.proofs.Preserves.{known}
@@ -70,7 +70,9 @@ module _ (z : LaneSizes) (s : State) (L : Lawful z s) (c : ℕ) (runs : (s.calle
   own_due : due ((next z s c).callers c) ≤ due (s.callers c)
   own_due = let was = one_due in let k' = (next z s c).callers c in ⊎_elim
       (λ (w : (k'.ops ≡ (s.callers c).ops) × (k'.mine ≡ (s.callers c).mine)). let e = ap length w.1 in by k' (is_idle k'.point) e)
-      (λ (w : (k'.point ≡ Idle) × (k'.mine ≡ (s.callers c).mine ++ own_group c (s.callers c) ∷ [])). let e = ap length w.1 ∙ length-append (s.callers c).mine (own_group c (s.callers c) ∷ []) in let i = ap (λ (t : Point). one (is_idle t)) w.0 in omega arith)
+      (λ (w : (k'.point ≡ Idle) × ((k'.mine ≡ (s.callers c).mine ++ own_group c (s.callers c) ∷ []) ⊎ (k'.mine ≡ (s.callers c).mine))). let i = ap (λ (t : Point). one (is_idle t)) w.0 in ⊎_elim
+      (λ (m : k'.mine ≡ (s.callers c).mine ++ own_group c (s.callers c) ∷ []). let e = ap length m ∙ length-append (s.callers c).mine (own_group c (s.callers c) ∷ []) in omega (arith, was, i, e))
+      (λ (m : k'.mine ≡ (s.callers c).mine). let e = ap length m in omega (arith, was, i, e)) w.1)
       (goes_on_or_ends z s c) where
         by : (k' : Caller) (b : Bool) → length k'.mine ≡ length (s.callers c).mine → length k'.mine + cond b 0 1 ≤ due (s.callers c)
         by k' true e = let was = one_due in omega arith
@@ -90,7 +92,7 @@ module _ (z : LaneSizes) (s : State) (L : Lawful z s) (c : ℕ) (runs : (s.calle
         own : ((next z s c).callers c).point ≢ Idle → ((s.callers c).point ≢ Idle) × (((next z s c).callers c).ops ≡ (s.callers c).ops) × (((next z s c).callers c).mine ≡ (s.callers c).mine)
         own still = let k' = (next z s c).callers c in ⊎_elim
             (λ (w : (k'.ops ≡ (s.callers c).ops) × (k'.mine ≡ (s.callers c).mine)). (runs, w.0, w.1))
-            (λ (w : (k'.point ≡ Idle) × (k'.mine ≡ (s.callers c).mine ++ own_group c (s.callers c) ∷ [])). absurd (still w.0))
+            (λ (w : (k'.point ≡ Idle) × ((k'.mine ≡ (s.callers c).mine ++ own_group c (s.callers c) ∷ []) ⊎ (k'.mine ≡ (s.callers c).mine))). absurd (still w.0))
             (goes_on_or_ends z s c)
 
   -- there is room for the groups after the step where there is for those that are due

@@ -1,6 +1,6 @@
 -- Lists of callers that made no command yet.
 use Rattle.std.proofs.Common.{◌≡◌, ℕ, zero, suc, ◌<◌, List, [], ◌∷◌, length, slice_index_or, map, refl, ap, ◌∙◌, arith}
-use Rattle.core_model.specs.Start.{newcomer}
+use Rattle.lane_steps.specs.Start.{newcomer}
 use Rattle.step_core.specs.declared.call.Call.{Call}
 use Rattle.step_core.specs.Calls.{call_of}
 use Rattle.step_core.specs.Due.{due}

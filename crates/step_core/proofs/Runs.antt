@@ -3,15 +3,15 @@ use Rattle.std.proofs.Common.{◌≡◌, ℕ, suc, ◌+◌, ltb, Bool, true, fal
 use Rattle.std.proofs.lemmas.Bool.{ltb-true, ltb-false}
 use Rattle.bq_model.specs.declared.shape.Shape.{Shape}
 use Rattle.bq_model.specs.History.{operations}
-use Rattle.core_model.specs.LaneSizes.{lane_sizes}
-use Rattle.core_model.specs.Start.{start}
-use Rattle.core_model.specs.State.{State}
+use Rattle.lane_steps.specs.LaneSizes.{lane_sizes}
+use Rattle.lane_steps.specs.Start.{start}
+use Rattle.lane_steps.specs.State.{State}
 use Rattle.core_model.specs.Lawful.{Lawful}
 use Rattle.core_model.proofs.Steps.{preserves_next, preserves_start}
 use Rattle.step_core.specs.declared.schedule.Event.{Event}
 use Rattle.step_core.specs.declared.schedule.Event.TheVariants as event
 use Rattle.step_core.specs.declared.schedule.EventCause.{EventCause}
-use Rattle.step_core.specs.declared.schedule.EventCause.TheVariants.{BadCaller, BadBatch, BusyCaller}
+use Rattle.step_core.specs.declared.schedule.EventCause.TheVariants.{BadCaller, BadBatch, BusyCaller, IdleCaller}
 use Rattle.step_core.specs.Commands.{is_command}
 use Rattle.step_core.specs.Due.{is_idle}
 use Rattle.step_core.specs.Schedule.{cause_of, after_event, refused_or, schedule}
@@ -25,6 +25,12 @@ module _ (shape : Shape) (s : State) (L : Lawful (lane_sizes shape) s) where
   can_start true true false e = absurd (cc e)
   can_start true false idle e = absurd (cc e)
   can_start false takes idle e = absurd (cc e)
+
+  -- a step that has no cause is of a caller whose command runs
+  pub can_step : (known idle : Bool) → cond known (cond idle (Some IdleCaller) None) (Some BadCaller) ≡ None → idle ≡ false
+  can_step true true e = absurd (cc e)
+  can_step true false e = refl
+  can_step false idle e = absurd (cc e)
 
   pub event_lawful : (e : Event) → cause_of shape s e ≡ None → Lawful (lane_sizes shape) (after_event shape s e)
   event_lawful (event.Start c ops) none = by (ltb shape.allowance (length (operations (s.callers c).mine) + length ops)) refl where

@@ -1,7 +1,7 @@
 -- A schedule goes on event by event.
 use Rattle.std.proofs.Common.{◌≡◌, ℕ, zero, suc, ◌<◌, ◌≤◌, List, [], ◌∷◌, length, drop, slice_index_or, Option, Some, None, Result, Ok, Err, refl, sym, ap, ◌∙◌, arith}
 use Rattle.bq_model.specs.declared.shape.Shape.{Shape}
-use Rattle.core_model.specs.State.{State}
+use Rattle.lane_steps.specs.State.{State}
 use Rattle.step_core.specs.declared.schedule.Event.{Event}
 use Rattle.step_core.specs.declared.schedule.EventCause.{EventCause}
 use Rattle.step_core.specs.declared.schedule.EventCause.TheVariants.{BadCaller}

@@ -1,5 +1,5 @@
 -- A step finds all that it needs in sound lists, and leaves them sound.
-use Rattle.std.proofs.Common.{◌≡◌, ◌≢◌, ℕ, zero, suc, ◌+◌, ◌-◌, ◌<◌, ◌≤◌, ◌↔◌, ltb, Bool, true, false, List, [], ◌∷◌, length, map, slice_index_or, slice_get, sym, refl, ap, ◌∙◌, subst, arith, All, IfSome, Option, Some, Result, Ok, Err, OnOk, vec_len, vec_capacity}
+use Rattle.std.proofs.Common.{◌≡◌, ◌≢◌, ⊎_elim, ℕ, zero, suc, ◌+◌, ◌-◌, ◌<◌, ◌≤◌, ◌↔◌, ltb, Bool, true, false, List, [], ◌∷◌, length, map, slice_index_or, slice_get, sym, refl, ap, ◌∙◌, subst, arith, All, IfSome, Option, Some, Result, Ok, Err, OnOk, vec_len, vec_capacity}
 use Rattle.std.proofs.lemmas.List.{length-map}
 use Rattle.std.proofs.lemmas.Bool.{ltb-true, lt-ltb}
 use Rattle.std.specs.declared.vec.Vec.{Vec}
@@ -11,18 +11,24 @@ use Rattle.bq_model.specs.History.{operations}
 use Rattle.bq_model.specs.Own.{mine}
 use Rattle.word_rows.specs.Sizes.{rows_of, anns_of}
 use Rattle.word_rows.proofs.SizeLemmas.{rows_within}
-use Rattle.core_model.specs.declared.point.Point.{Point}
-use Rattle.core_model.specs.declared.point.Point.TheVariants.{Idle}
-use Rattle.core_model.specs.Functions.{put}
-use Rattle.core_model.specs.LaneSizes.{LaneSizes, lane_sizes}
-use Rattle.core_model.specs.Start.{newcomer, PassesAllowance}
-use Rattle.core_model.specs.State.{Caller, State, read}
-use Rattle.core_model.specs.Step.{target, linearizes, group_owner, next}
-use Rattle.core_model.specs.Ranges.{IsWord, RowsFit, CountsFit}
+use Rattle.lane_steps.specs.declared.point.Point.{Point}
+use Rattle.lane_steps.specs.declared.point.Point.TheVariants.{Idle}
+use Rattle.lane_steps.specs.Functions.{put}
+use Rattle.lane_steps.specs.LaneSizes.{LaneSizes, lane_sizes}
+use Rattle.lane_steps.specs.Start.{newcomer, PassesAllowance}
+use Rattle.lane_steps.specs.State.{Caller, State, read}
+use Rattle.lane_steps.specs.Step.{target, linearizes, group_owner, next}
+use Rattle.lane_steps.specs.Ranges.{IsWord, RowsFit, CountsFit}
 use Rattle.core_model.specs.Lawful.{Lawful}
 use Rattle.core_model.proofs.Puts.{put_all}
 use Rattle.core_model.proofs.Steps.{preserves_next}
-use Rattle.core_model.proofs.ReadValues.{named_fit, values_fit, walked_fit}
+use Rattle.core_model.specs.Few.{ListsFit, Few, HasFew}
+use Rattle.core_model.proofs.FewSteps.{lists_fit, few_stays}
+use Rattle.excess_count.specs.Excess.{enqueue_count, is_enqueue}
+use Rattle.std.proofs.lemmas.List.Sums.{count_by-le-length}
+use Rattle.lane_steps.specs.declared.point.Point.TheVariants as point
+use Rattle.lane_steps.specs.declared.point.FillPoint.TheVariants as fill
+use Rattle.lane_steps.specs.declared.point.ClosePoint.TheVariants as close
 use Rattle.core_model.proofs.InRange.{counts_fit, rows_fit, is_word, shape_fits}
 use Rattle.step_core.specs.declared.call.Call.{Call}
 use Rattle.step_core.specs.declared.lists.Lists.{Lists}
@@ -42,6 +48,11 @@ call_at (k ∷ ks) zero below = (k, refl, λ _. refl)
 call_at (k ∷ ks) (suc c) below = call_at ks c (omega arith)
 
 module _ (a : Lists) (S : IsSound a) where
+  -- no command has more operations than a batch
+  short : (c : ℕ) → c < a.shape.callers → length (callers_of a.calls.items c).ops ≤ a.shape.batch
+  short c below = let inside : c < length a.calls.items = let n = S.calls in omega arith in let f = call_at a.calls.items c inside in
+      let e = ap (λ (k : Caller). length k.ops) (caller_is a.calls.items c f.0 inside (sym (f.2 f.0))) in let fits = (subst (IsReady a.shape.batch a.shape.callers) (f.2 f.0) (S.ready c f.0 inside)).fits in omega arith
+
   -- the groups that are due, caller by caller
   due_each : total a.shape.callers (λ c. due (callers_of a.calls.items c)) ≡ all_due a.calls.items
   due_each = total_list due newcomer (map call_of a.calls.items) a.shape.callers (let n = S.calls in let m = length-map a.calls.items call_of in omega arith)
@@ -54,7 +65,7 @@ module _ (a : Lists) (S : IsSound a) where
     fits_count t at = subst CountsFit (sym at) (counts_fit (lane_sizes a.shape) (state_of a) S.lawful (shape_fits a.shape) c)
 
     pub fits_rows : (t : Point) → t ≡ (callers_of a.calls.items c).point → RowsFit t
-    fits_rows t at = subst RowsFit (sym at) (rows_fit (lane_sizes a.shape) (state_of a) S.lawful (let most = rows_within a.shape in omega arith) c)
+    fits_rows t at = subst RowsFit (sym at) (rows_fit (lane_sizes a.shape) (state_of a) S.lawful (shape_fits a.shape) (let most = rows_within a.shape in omega arith) c)
 
     module _ (runs : (callers_of a.calls.items c).point ≢ Idle) (t : Point) (at : t ≡ (callers_of a.calls.items c).point) where
       -- the lists as a later part of the step finds them
@@ -71,7 +82,11 @@ module _ (a : Lists) (S : IsSound a) where
   may_go ks c same below runs = let f = call_at ks c below in subst (λ (o : Option Call). IfSome o (MayGo a.shape c)) (sym f.1)
       (let is = caller_is ks c f.0 below (sym (f.2 f.0)) in let was : callers_of a.calls.items c ≡ call_of f.0 = ap (λ (ys : List Call). callers_of ys c) (sym same) ∙ is in
       let R : IsReady a.shape.batch a.shape.callers f.0 = subst (IsReady a.shape.batch a.shape.callers) (f.2 f.0) (subst (All (IsReady a.shape.batch a.shape.callers)) (sym same) S.ready c f.0 below) in
-      let within = (S.lawful.callers c).allowed.within in let most = a.shape.some_allowance.1 in record {
+      let within = (S.lawful.callers c).allowed in let most = a.shape.some_allowance.1 in
+      let inside : c < a.shape.callers = let n = S.calls in let m = ap (λ (ys : List Call). length ys) same in omega arith in
+      let F : ListsFit a.shape.callers (call_of f.0) = subst (ListsFit a.shape.callers) was (lists_fit a.shape (state_of a) S.lawful c) in
+      let at : (t : Point) → f.0.point ≡ t → Few a.shape c t f.0.ops f.0.rows.items f.0.walked.items f.0.retired.items f.0.named.items
+      = λ t is. subst (λ (u : Point). Few a.shape c u f.0.ops f.0.rows.items f.0.walked.items f.0.retired.items f.0.named.items) is (subst (HasFew a.shape c) was (S.few c inside)) in record {
         known = let n = S.calls in let m = ap (λ (ys : List Call). length ys) same in omega arith;
         may_end = record {
           ready = subst (λ (p : ℕ × ℕ). IsReady p.0 p.1 f.0) (λ i. (sym R.answers i, sym R.named i)) R;
@@ -80,11 +95,15 @@ module _ (a : Lists) (S : IsSound a) where
         };
         some = let n = R.answers in let least = a.shape.some_batch.0 in omega arith;
         rows = fits_rows c f.0.point (sym (ap (λ (k : Caller). k.point) was));
-        reads = λ m r l is. let e = ap (λ (k : Caller). length k.values) was in let o = ap (λ (k : Caller). length k.ops) was in
-            let less = values_fit (lane_sizes a.shape) (state_of a) S.lawful c m r l (ap (λ (k : Caller). k.point) was ∙ is) in omega arith;
-        walks = λ d r l is. let e = ap (λ (k : Caller). length k.values) was in let o = ap (λ (k : Caller). length k.ops) was in
-            let less = walked_fit (lane_sizes a.shape) (state_of a) S.lawful c d r l (ap (λ (k : Caller). k.point) was ∙ is) in omega arith;
-        scans = λ n d is. let e = ap (λ (k : Caller). length k.named) was in let m = R.named in let room = named_fit (lane_sizes a.shape) (state_of a) S.lawful c n d (ap (λ (k : Caller). k.point) was ∙ is) in let less = room.1 in (room.0, omega arith, omega arith);
+        fills = λ n r v is. let less = F.fills n r v is in let most = count_by-le-length is_enqueue f.0.ops in omega arith;
+        links = λ n i r q is. let next = F.chains n i r q is in let early = at (point.Fill n (fill.StoreChain i r q)) is in let most = count_by-le-length is_enqueue f.0.ops in let fits = R.fits in let small = a.shape.some_batch.1 in
+            ⊎_elim (λ (one : length f.0.rows.items ≤ 1). let o = one in omega arith) (λ (few : length f.0.rows.items ≤ enqueue_count f.0.ops). let e = few in omega arith) early.few_rows;
+        reads = λ b r l is. let on = F.reads b r l is in let left = on.left in let same = on.paired in (omega arith, omega arith);
+        walks = λ d r l is. let on = F.walks d r l is in let left = on.left in let same = on.paired in (omega arith, omega arith);
+        scans = λ n d is. let m = R.named in let room = F.hears n d is in let less = room.1 in (room.0, omega arith, omega arith);
+        finds = λ x d is. let m = R.named in let few = (at (point.Close x (close.LoadHazard d)) is).0 in let word : d < a.shape.callers = subst (λ (t : Point). IsWord (rows_of a.shape) a.shape.callers (anns_of a.shape) (target c t)) (ap (λ (k : Caller). k.point) was ∙ is) (finds_word c (callers_of a.calls.items c).point refl) in (word, omega arith);
+        marks = λ x q read passed stopped is. let m = R.retired in let few = at (point.Close x (close.MarkRow q read passed stopped)) is in omega arith;
+        loses = λ x r is. let m = R.retired in let few = at (point.Close x (close.MarkLoose r)) is in omega arith;
       })
 
   module _ (c : ℕ) (runs : (callers_of a.calls.items c).point ≢ Idle) (e : Lists) (t : Point) (at : t ≡ (callers_of a.calls.items c).point)
@@ -106,6 +125,10 @@ module _ (a : Lists) (S : IsSound a) where
       by false g = let on = goes_on_same (lane_sizes a.shape) (state_of a) S.lawful c runs d runs' in
           still g d ∙ (S.copied d on.0 (ap (λ (h : List Group). length (mine h d)) (sym (leaves_history (lane_sizes a.shape) (state_of a) S.lawful c runs t at g)) ∙ (none ∙ ap length on.2)) ∙ sym on.1)
 
+    few_next : (d : ℕ) → d < e.shape.callers → HasFew e.shape d (callers_of e.calls.items d)
+    few_next d below = subst (λ (z : Shape). HasFew z d (callers_of e.calls.items d)) (sym shape) (subst (λ (y : State). HasFew a.shape d (y.callers d)) (sym step)
+        (few_stays a.shape (state_of a) S.lawful c (λ x inside. (S.few x inside, short x inside)) d (subst (λ (z : Shape). d < z.callers) shape below)))
+
     pub stays_sound : IsSound e
     stays_sound = let L = subst (Lawful (lane_sizes a.shape)) (sym step) (preserves_next (lane_sizes a.shape) (state_of a) S.lawful c) in record {
       lawful = subst (λ (z : Shape). Lawful (lane_sizes z) (state_of e)) (sym shape) L;
@@ -113,6 +136,7 @@ module _ (a : Lists) (S : IsSound a) where
       calls = calls ∙ (S.calls ∙ ap (λ (z : Shape). z.callers) (sym shape));
       copies = copies ∙ (S.copies ∙ ap (λ (z : Shape). z.callers) (sym shape));
       ready = subst (λ (z : Shape). All (IsReady z.batch z.callers) e.calls.items) (sym shape) ready;
+      few = few_next;
       reserved = let falls = total_le a.shape.callers (λ d. due ((next (lane_sizes a.shape) (state_of a) c).callers d)) (λ d. due (callers_of a.calls.items d)) (λ d _. due_falls (lane_sizes a.shape) (state_of a) S.lawful c runs d) in
           let was = due_each in let now = total_list due newcomer (map call_of e.calls.items) a.shape.callers (let n = S.calls in let m = length-map e.calls.items call_of in let l = calls in omega arith) in
           let same = ap (λ (s : State). total a.shape.callers (λ d. due (s.callers d))) step in let room = S.reserved in let cap = capacity in omega arith;
@@ -121,7 +145,7 @@ module _ (a : Lists) (S : IsSound a) where
 
 -- what a caller has made is within its allowance
 pub made_within : (a : Lists) (S : IsSound a) (c : ℕ) (k : Call) → c < length a.calls.items → k ≡ slice_index_or a.calls.items c k → k.operations ≤ a.shape.allowance
-made_within a S c k below is = let within = (S.lawful.callers c).allowed.within in let made = (subst (IsReady a.shape.batch a.shape.callers) (sym is) (S.ready c k below)).operations in
+made_within a S c k below is = let within = (S.lawful.callers c).allowed in let made = (subst (IsReady a.shape.batch a.shape.callers) (sym is) (S.ready c k below)).operations in
     let e = ap (λ (y : Caller). length (operations y.mine)) (caller_is a.calls.items c k below is) in omega arith
 
 pub spent_is : (a : Lists) (S : IsSound a) (c : ℕ) (k : Call) (allowance more : ℕ) → c < length a.calls.items → k ≡ slice_index_or a.calls.items c k → allowance ≡ a.shape.allowance
@@ -139,6 +163,7 @@ again_sound a b S same shape sizes calls copies ready capacity waiting = record 
   calls = calls ∙ (S.calls ∙ ap (λ (z : Shape). z.callers) (sym shape));
   copies = ap (λ (v : Vec (List Op) Global). vec_len v) copies ∙ (S.copies ∙ ap (λ (z : Shape). z.callers) (sym shape));
   ready = subst (λ (z : Shape). All (IsReady z.batch z.callers) b.calls.items) (sym shape) ready;
+  few = subst (λ (z : Shape). (d : ℕ) → d < z.callers → HasFew z d (callers_of b.calls.items d)) (sym shape) (subst (λ (s : State). (d : ℕ) → d < a.shape.callers → HasFew a.shape d (s.callers d)) (sym same) S.few);
   reserved = let r = S.reserved in let c = capacity in let w = waiting in omega arith;
   copied = subst (λ (v : List (List Op)). (d : ℕ) → (callers_of b.calls.items d).point ≢ Idle → length (mine b.history.items d) ≡ length (callers_of b.calls.items d).mine → copy_at v d ≡ (callers_of b.calls.items d).ops) (ap (λ (v : Vec (List Op) Global). v.items) (sym copies))
       (subst (λ (s : State). (d : ℕ) → (s.callers d).point ≢ Idle → length (mine s.history d) ≡ length (s.callers d).mine → copy_at a.copies.items d ≡ (s.callers d).ops) (sym same) S.copied);
@@ -152,15 +177,17 @@ on_ok (Err e) f p = tt
 module _ (a b : Lists) (S : IsSound a) (c : ℕ) (k' : Caller) (goes : callers_of b.calls.items ≡ put (callers_of a.calls.items) c k') where
   pub put_sound : Lawful (lane_sizes a.shape) record { memory = (state_of a).memory; history = (state_of a).history; callers = put (callers_of a.calls.items) c k' }
       → b.shape ≡ a.shape → b.words ≡ a.words → b.history ≡ a.history → vec_len b.calls ≡ vec_len a.calls → vec_len b.copies ≡ vec_len a.copies → All (IsReady a.shape.batch a.shape.callers) b.calls.items
-      → all_due b.calls.items ≤ vec_capacity a.history
+      → HasFew a.shape c k' → all_due b.calls.items ≤ vec_capacity a.history
       → (k'.point ≢ Idle → copy_at b.copies.items c ≡ k'.ops) → ((d : ℕ) → d ≢ c → copy_at b.copies.items d ≡ copy_at a.copies.items d) → IsSound b
-  put_sound L shape words history calls copies ready reserved own others = record {
+  put_sound L shape words history calls copies ready few reserved own others = record {
     lawful = subst (λ (z : Shape). Lawful (lane_sizes z) (state_of b)) (sym shape)
         (subst (Lawful (lane_sizes a.shape)) (λ i. record { memory = memory_of (sym words i); history = (sym history i).items; callers = sym goes i }) L);
     sizes = ap (λ (w : Words). sizes_of w) words ∙ (S.sizes ∙ ap (λ (z : Shape). sizes_for (rows_of z) (anns_of z) z.callers) (sym shape));
     calls = calls ∙ (S.calls ∙ ap (λ (z : Shape). z.callers) (sym shape));
     copies = copies ∙ (S.copies ∙ ap (λ (z : Shape). z.callers) (sym shape));
     ready = subst (λ (z : Shape). All (IsReady z.batch z.callers) b.calls.items) (sym shape) ready;
+    few = subst (λ (z : Shape). (d : ℕ) → d < z.callers → HasFew z d (callers_of b.calls.items d)) (sym shape) (subst (λ (g : ℕ → Caller). (d : ℕ) → d < a.shape.callers → HasFew a.shape d (g d)) (sym goes)
+        (put_all (callers_of a.calls.items) c k' (λ d k. d < a.shape.callers → HasFew a.shape d k) (λ _. few) (λ d _. S.few d)));
     reserved = let m = ap (λ (v : Vec Group Global). vec_capacity v) history in let r = reserved in omega arith;
     copied = subst (λ (v : Vec Group Global). (d : ℕ) → (callers_of b.calls.items d).point ≢ Idle → length (mine v.items d) ≡ length (callers_of b.calls.items d).mine → copy_at b.copies.items d ≡ (callers_of b.calls.items d).ops) (sym history)
         (subst (λ (f : ℕ → Caller). (d : ℕ) → (f d).point ≢ Idle → length (mine a.history.items d) ≡ length (f d).mine → copy_at b.copies.items d ≡ (f d).ops) (sym goes)

@@ -1,8 +1,8 @@
 -- How many groups a caller will have made when its running command has ended.
 use Rattle.std.specs.Prelude.{ℕ, ◌+◌, Bool, true, false, cond, length}
-use Rattle.core_model.specs.declared.point.Point.{Point}
-use Rattle.core_model.specs.declared.point.Point.TheVariants.{Idle}
-use Rattle.core_model.specs.State.{Caller}
+use Rattle.lane_steps.specs.declared.point.Point.{Point}
+use Rattle.lane_steps.specs.declared.point.Point.TheVariants.{Idle}
+use Rattle.lane_steps.specs.State.{Caller}
 
 abbrev pub is_idle : Point → Bool
 is_idle Idle = true

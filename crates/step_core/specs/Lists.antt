@@ -3,13 +3,14 @@ use Rattle.std.specs.Prelude.{◌≡◌, ◌≢◌, ℕ, ◌<◌, ◌≤◌, Lis
 use Rattle.bq_model.specs.declared.op.Op.{Op}
 use Rattle.bq_model.specs.Own.{mine}
 use Rattle.word_rows.specs.Sizes.{rows_of, anns_of}
-use Rattle.core_model.specs.declared.point.Point.TheVariants.{Idle}
-use Rattle.core_model.specs.LaneSizes.{lane_sizes}
-use Rattle.core_model.specs.State.{Caller, State}
-use Rattle.core_model.specs.Start.{newcomer}
+use Rattle.lane_steps.specs.declared.point.Point.TheVariants.{Idle}
+use Rattle.lane_steps.specs.LaneSizes.{lane_sizes}
+use Rattle.lane_steps.specs.State.{Caller, State}
+use Rattle.lane_steps.specs.Start.{newcomer}
 use Rattle.core_model.specs.Lawful.{Lawful}
 use Rattle.step_core.specs.declared.call.Call.{Call}
 use Rattle.step_core.specs.declared.lists.Lists.{Lists}
+use Rattle.core_model.specs.Few.{HasFew}
 use Rattle.step_core.specs.Calls.{call_of, IsReady}
 use Rattle.step_core.specs.Due.{due}
 use Rattle.step_core.specs.Words.{memory_of, sizes_of, sizes_for}
@@ -43,6 +44,8 @@ pub record IsSound (m : Lists) : Type 0 where
   pub calls : vec_len m.calls ≡ m.shape.callers
   pub copies : vec_len m.copies ≡ m.shape.callers
   pub ready : All (IsReady m.shape.batch m.shape.callers) m.calls.items
+  -- few rows wait to be freed
+  pub few : (c : ℕ) → c < m.shape.callers → HasFew m.shape c (callers_of m.calls.items c)
   -- there is room for the group of each running command, whoever adds it to the history
   pub reserved : all_due m.calls.items ≤ vec_capacity m.history
   -- and where it isn't there yet, a copy of its operations

@@ -6,10 +6,12 @@ use Rattle.word_rows.specs.declared.place.Place.{Place}
 use Rattle.word_rows.specs.declared.head_word.HeadWord.{HeadWord}
 use Rattle.word_rows.specs.declared.link_word.LinkWord.{LinkWord}
 use Rattle.word_rows.specs.declared.link_word.LinkWord.TheVariants.{Nil}
-use Rattle.core_model.specs.declared.point.Notice.{Notice}
-use Rattle.core_model.specs.Notices.{blank}
-use Rattle.core_model.specs.State.{Caller, State}
-use Rattle.core_model.specs.Start.{newcomer}
+use Rattle.lane_steps.specs.declared.point.Notice.{Notice}
+use Rattle.word_rows.specs.declared.marks.Marks.{Marks}
+use Rattle.word_rows.specs.Opening.{opening_marks}
+use Rattle.lane_steps.specs.Notices.{blank}
+use Rattle.lane_steps.specs.State.{Caller, State}
+use Rattle.lane_steps.specs.Start.{newcomer}
 use Rattle.step_core.specs.declared.lists.Lists.{Lists}
 use Rattle.step_core.specs.Calls.{call_of}
 
@@ -25,6 +27,9 @@ pub record View : Type 0 where
   pub notices : List Notice
   -- of each caller the announcement that its ANN_HAZARD names
   pub ann_hazards : List (Option ℕ)
+  -- the marks of each row, and of each caller the row that its NODE_HAZARD names
+  pub marks : List Marks
+  pub node_hazards : List (Option ℕ)
   pub history : List Group
   pub callers : List Caller
 
@@ -42,6 +47,8 @@ state_at v = record {
     old_tail = λ a. slice_index_or v.old_tails a None;
     notice = λ a. slice_index_or v.notices a blank;
     ann_hazard = λ c. slice_index_or v.ann_hazards c None;
+    mark = λ r. slice_index_or v.marks r (opening_marks r);
+    node_hazard = λ c. slice_index_or v.node_hazards c None;
   };
   history = v.history;
   callers = caller_at v;
@@ -57,6 +64,8 @@ view_of m = record {
   old_tails = m.words.old_tails.items;
   notices = m.words.notices.items;
   ann_hazards = m.words.ann_hazards.items;
+  marks = m.words.marks.items;
+  node_hazards = m.words.node_hazards.items;
   history = m.history.items;
   callers = map call_of m.calls.items;
 }

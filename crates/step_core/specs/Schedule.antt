@@ -2,10 +2,10 @@
 use Rattle.std.specs.Prelude.{ℕ, suc, ◌+◌, nat_lt, if◌then◌else◌, List, [], ◌∷◌, length, Option, Some, None, Result, Ok, Err}
 use Rattle.bq_model.specs.History.{operations}
 use Rattle.bq_model.specs.declared.shape.Shape.{Shape}
-use Rattle.core_model.specs.LaneSizes.{lane_sizes}
-use Rattle.core_model.specs.Start.{start}
-use Rattle.core_model.specs.State.{State}
-use Rattle.core_model.specs.Step.{next}
+use Rattle.lane_steps.specs.LaneSizes.{lane_sizes}
+use Rattle.lane_steps.specs.Start.{start}
+use Rattle.lane_steps.specs.State.{State}
+use Rattle.lane_steps.specs.Step.{next}
 use Rattle.step_core.specs.declared.schedule.Event.{Event}
 use Rattle.step_core.specs.declared.schedule.Event.TheVariants as event
 use Rattle.step_core.specs.declared.schedule.EventCause.{EventCause}

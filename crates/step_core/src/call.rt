@@ -1,26 +1,24 @@
 // What the machine keeps of a caller. All memory that a command's steps need is there before its first step.
-ghost use Rattle.std.specs.Prelude.{◌≡◌, ◌≢◌, ℕ, suc, ◌+◌, ◌++◌, ◌^◌, ◌<◌, ◌≤◌, IfOk, OnOk, [], ◌∷◌, length, slice_index, vec_len, vec_capacity, Some, None};
-ghost use Rattle.bq_model.specs.History.{operations};
+ghost use Rattle.std.specs.Prelude.{◌≡◌, ◌≢◌, ℕ, suc, ◌+◌, ◌++◌, ◌==◌, ◌^◌, ◌<◌, ◌≤◌, IfOk, OnOk, IsTrue, [], ◌∷◌, length, get_or, vec_len, vec_capacity, Some, None};
 ghost use Rattle.bq_model.specs.Values.{enqueued};
-ghost use Rattle.core_model.specs.Step.{after, closing_answers, closes, ended, guarding, listening, reads_on, stepped, stepped_with};
-ghost use Rattle.core_model.specs.Fill.{noted};
-ghost use Rattle.core_model.specs.LaneSizes.{lane_sizes};
-ghost use Rattle.core_model.specs.Start.{newcomer};
+ghost use Rattle.lane_steps.specs.Step.{after, guarding, holding, listening, links_on, fills_row, reads_on, rows_left, stepped, stepped_with};
+ghost use Rattle.lane_steps.specs.Batches.{with_rows};
+ghost use Rattle.lane_steps.specs.Fill.{noted};
+ghost use Rattle.lane_steps.specs.LaneSizes.{lane_sizes};
+ghost use Rattle.lane_steps.specs.Start.{newcomer};
 ghost use Rattle.step_core.specs.Calls.{call_of, IsReady, MayEnd, MayGo};
 
 use bq_model::{Answers, Bounded, Group, Ops, OutOfMemory, Shape};
-use core_model::{
-    AnswerPoint, CallEnd, Closing, Course, Draft, FillPoint, Hold, Notice, Point, Stock,
-    first_store, past,
+use lane_steps::{
+    AnswerPoint, CallEnd, Closing, Course, Draft, FillPoint, Hold, Notice, Point, Reading, Taking,
+    first_store, past, search,
 };
-use excess_count::pair;
-use node_guard::AnnStock;
+use node_guard::{AnnStock, Retired};
 use std::alloc::Global;
-use std::mem;
 use word_rows::Content;
 
 /// The point of a caller in its call, and what of its calls is kept.
-#[derive(Debug, Drop)]
+#[derive(Drop)]
 pub struct Call {
     pub alloc: Global,
     /// The step that comes next.
@@ -33,13 +31,18 @@ pub struct Call {
     pub mine: Vec<Group>,
     /// How many operations they have.
     pub operations: u64,
-    /// How many item rows the caller took, and how many stoppers.
-    pub taken: u32,
-    pub stopped: u32,
-    /// The values that it has read for the answers of its batch.
+    /// The rows that its batch took and hasn't linked, in the order of taking.
+    pub rows: Vec<u32>,
+    /// The values that it has read for the answers of its batch, and the rows that have these; then those that it has yet to
+    /// mark.
     pub values: Vec<u64>,
-    /// The announcements that it found in the hazard words of others as it last chose one, and what its own word names.
+    pub walked: Vec<u32>,
+    /// The rows that both marks were set on and that it has yet to free.
+    pub retired: Retired,
+    /// What it has found in the hazard words of others, in its last choice of an announcement or its last scan.
     pub named: Bounded<u32>,
+    /// What its own hazard words name.
+    pub row_hold: Hold,
     pub hold: Hold,
     /// How the last ended command ended, and its answers.
     pub outcome: Option<CallEnd>,
@@ -50,11 +53,13 @@ pub struct Call {
 }
 
 impl Call {
-    /// A caller that made no command yet, with memory for the answers of a batch, and for what it finds in hazard words.
-    pub fn new(alloc: Global, batch: u32, callers: u32) -> Result<Call, OutOfMemory>
+    /// A caller that made no command yet, with memory for the rows and the answers of a batch, and for what it finds in hazard
+    /// words.
+    pub fn new(alloc: Global, shape: &Shape) -> Result<Call, OutOfMemory>
         ensures newcomer { IfOk result (λ call. call_of call ≡ newcomer) }
-        ensures ready { IfOk result (λ call. IsReady batch callers call) }
+        ensures ready { IfOk result (λ call. IsReady shape.now.batch shape.now.callers call) }
     {
+        let most = shape.batch() as usize;
         Ok(Call {
             alloc,
             point: Point::Idle,
@@ -62,129 +67,50 @@ impl Call {
             puts: Vec::new(alloc),
             mine: Vec::new(alloc),
             operations: 0,
-            taken: 0,
-            stopped: 0,
-            values: Vec::new(alloc),
-            named: Bounded::new(alloc, callers)?,
+            rows: Vec::with_capacity(alloc, most)?,
+            values: Vec::with_capacity(alloc, most)?,
+            walked: Vec::with_capacity(alloc, most)?,
+            retired: Retired::new(alloc, shape)?,
+            named: Bounded::new(alloc, shape.callers())?,
+            row_hold: Hold::Free,
             hold: Hold::Free,
             outcome: None,
-            answers: Answers::new(alloc, batch)?,
+            answers: Answers::new(alloc, shape.batch())?,
             started_at: 0,
             ended_at: None,
         })
     }
 
-    /// Takes the memory that a command of so many operations needs, for the values that it reads and for its end.
-    pub fn reserve(&mut self, more: usize) -> Result<(), OutOfMemory>
+    /// Takes the memory that the end of a command needs.
+    pub fn reserve(&mut self) -> Result<(), OutOfMemory>
         ensures same { call_of self.new ≡ call_of self.old }
         ensures ready { (batch callers : ℕ) → IsReady batch callers self.old → IsReady batch callers self.new }
         ensures room { OnOk result (vec_len self.new.mine < vec_capacity self.new.mine) }
-        ensures values { OnOk result (more ≤ vec_capacity self.new.values) }
     {
-        self.values.reserve(more)?;
         self.mine.reserve(1)?;
         Ok(())
     }
 
-    /// A command starts, when the history has `now` groups and the caller then has taken so many rows.
-    pub fn begin(&mut self, point: Point, ops: Ops, puts: Vec<u64>, stock: Stock, now: usize)
+    /// A command starts, when the history has `now` groups.
+    pub fn begin(&mut self, point: Point, ops: Ops, puts: Vec<u64>, now: usize)
         requires ready { IsReady self.old.answers.capacity self.old.named.capacity self.old }
         requires room { vec_len self.old.mine < vec_capacity self.old.mine }
-        requires values { length ops ≤ vec_capacity self.old.values }
         requires fits { length ops ≤ self.old.answers.capacity }
         requires puts { puts.items ≡ enqueued ops }
-        ensures begins { call_of self.new ≡ record (call_of self.old) { point = point; ops = ops; taken = stock.taken; stopped = stock.stopped; values = []; started_at = now; ended_at = None } }
+        ensures begins { call_of self.new ≡ record (call_of self.old) { point = point; ops = ops; rows = []; values = []; walked = []; started_at = now; ended_at = None } }
         ensures ready { IsReady self.old.answers.capacity self.old.named.capacity self.new }
     {
         self.point = point;
         self.ops = ops;
         self.puts = puts;
-        self.taken = stock.taken;
-        self.stopped = stock.stopped;
+        self.rows.clear();
         self.values.clear();
+        self.walked.clear();
         self.started_at = now;
         self.ended_at = None;
     }
 
-    /// A command ends with Full as it starts, when the history has `now` groups.
-    pub fn refuse(&mut self, now: usize)
-        requires { IsReady self.old.answers.capacity self.old.named.capacity self.old }
-        ensures refused { call_of self.new ≡ record (call_of self.old) { outcome = Some CallEnd.Full; answers = []; started_at = now; ended_at = Some now } }
-        ensures ready { IsReady self.old.answers.capacity self.old.named.capacity self.new }
-    {
-        self.outcome = Some(CallEnd::Full);
-        self.answers.clear();
-        self.started_at = now;
-        self.ended_at = Some(now);
-    }
-
-    // The command ends with Done and the answers that stand there, and its group joins the ended ones.
-    fn end(&mut self, caller: u32, now: usize)
-        requires { MayEnd self.old }
-        ensures ended { call_of self.new ≡ ended now caller (call_of self.old) self.old.answers.items }
-        ensures ready { IsReady self.old.answers.capacity self.old.named.capacity self.new }
-    {
-        let ops = mem::replace(&mut self.ops, Ops::new(self.alloc));
-        self.operations += ops.len() as u64;
-        self.mine.push_reserved(Group {
-            caller,
-            batch: self.mine.len() as u64,
-            ops,
-        });
-        self.puts.clear();
-        self.point = Point::Idle;
-        self.outcome = Some(CallEnd::Done);
-        self.ended_at = Some(now);
-    }
-
-    // It has taken effect, and ends with the answers that it has then.
-    fn end_with(&mut self, caller: u32, closing: Closing, now: usize)
-        requires may { MayEnd self.old }
-        requires some { 0 < self.old.answers.capacity }
-        ensures ended { call_of self.new ≡ ended now caller (call_of self.old) (closing_answers self.old.ops self.old.values.items closing) }
-        ensures ready { IsReady self.old.answers.capacity self.old.named.capacity self.new }
-    {
-        match closing {
-            Closing::Plain(answer) => {
-                self.answers.clear();
-                self.answers.push(answer);
-            }
-            Closing::Batch(queued) => pair(
-                self.ops.as_slice(),
-                queued,
-                self.values.as_slice(),
-                &mut self.answers,
-            ),
-        }
-        self.end(caller, now);
-    }
-
-    // It has taken effect: it ends where its hazard word names nothing, and else it clears that first.
-    fn close(&mut self, caller: u32, closing: Closing, now: usize)
-        requires may { MayEnd self.old }
-        requires some { 0 < self.old.answers.capacity }
-        ensures closes { call_of self.new ≡ closes now caller (call_of self.old) self.old.hold closing }
-        ensures ready { IsReady self.old.answers.capacity self.old.named.capacity self.new }
-    {
-        match self.hold {
-            Hold::Free => self.end_with(caller, closing, now),
-            Hold::Names(_) => self.point = Point::Clear(closing),
-            Hold::Held(_) => self.point = Point::Clear(closing),
-        }
-    }
-
-    // Its hazard word is clear, and it ends.
-    fn clear(&mut self, caller: u32, closing: Closing, now: usize)
-        requires may { MayEnd self.old }
-        requires some { 0 < self.old.answers.capacity }
-        ensures ended { call_of self.new ≡ ended now caller (record (call_of self.old) { hold = Hold.Free }) (closing_answers self.old.ops self.old.values.items closing) }
-        ensures ready { IsReady self.old.answers.capacity self.old.named.capacity self.new }
-    {
-        self.hold = Hold::Free;
-        self.end_with(caller, closing, now);
-    }
-
-    // What its own hazard word names, or whether it holds that, has changed.
+    // What its own ANN_HAZARD names, or whether it holds that, has changed.
     fn guard(&mut self, point: Point, hold: Hold)
         requires { MayEnd self.old }
         ensures guards { call_of self.new ≡ guarding (call_of self.old) point hold }
@@ -194,13 +120,23 @@ impl Call {
         self.hold = hold;
     }
 
+    // The same of its NODE_HAZARD.
+    fn guard_row(&mut self, point: Point, hold: Hold)
+        requires { MayEnd self.old }
+        ensures holds { call_of self.new ≡ holding (call_of self.old) point hold }
+        ensures ready { IsReady self.old.answers.capacity self.old.named.capacity self.new }
+    {
+        self.point = point;
+        self.row_hold = hold;
+    }
+
     // A batch goes on with the hazard words of the callers from this one on, or chooses its announcement.
-    fn scan_on(&mut self, shape: &Shape, caller: u32, notice: Notice, other: u32)
+    fn listen_on(&mut self, shape: &Shape, caller: u32, notice: Notice, other: u32)
         requires may { MayEnd self.old }
         requires known { caller < shape.now.callers }
         requires inside { other ≤ shape.now.callers }
         requires few { length self.old.named.items < shape.now.callers }
-        ensures scans { call_of self.new ≡ listening (lane_sizes shape.now) caller (call_of self.old) notice other self.old.named.items }
+        ensures listens { call_of self.new ≡ listening (lane_sizes shape.now) caller (call_of self.old) notice other self.old.named.items }
         ensures ready { IsReady self.old.answers.capacity self.old.named.capacity self.new }
     {
         let next = past(caller, other);
@@ -213,14 +149,14 @@ impl Call {
     }
 
     // It begins with that.
-    fn scan(&mut self, shape: &Shape, caller: u32, notice: Notice)
+    fn listen(&mut self, shape: &Shape, caller: u32, notice: Notice)
         requires may { MayEnd self.old }
         requires known { caller < shape.now.callers }
-        ensures scans { call_of self.new ≡ listening (lane_sizes shape.now) caller (call_of self.old) notice 0 [] }
+        ensures listens { call_of self.new ≡ listening (lane_sizes shape.now) caller (call_of self.old) notice 0 [] }
         ensures ready { IsReady self.old.answers.capacity self.old.named.capacity self.new }
     {
         self.named.clear();
-        self.scan_on(shape, caller, notice, 0);
+        self.listen_on(shape, caller, notice, 0);
     }
 
     // It found this in the word of that caller.
@@ -237,70 +173,158 @@ impl Call {
             Some(ann) => self.named.push(ann),
             None => {}
         }
-        self.scan_on(shape, caller, notice, other + 1);
+        self.listen_on(shape, caller, notice, other + 1);
     }
 
-    // A batch stores the value of its enqueue of this number into the row.
-    fn fill(&mut self, notice: Notice, number: u32, row: u32)
-        requires { MayEnd self.old }
-        ensures fills { call_of self.new ≡ stepped (call_of self.old) (Point.Fill notice (FillPoint.StoreValue number row (slice_index (enqueued self.old.ops) number))) }
-        ensures ready { IsReady self.old.answers.capacity self.old.named.capacity self.new }
+    // The row of this number.
+    fn row(&self, number: usize) -> u32
+        ensures { result ≡ get_or self.now.rows.items number 0 }
     {
-        let value = self.puts.get(number as usize).copied().unwrap_or(0);
-        self.point = Point::Fill(notice, FillPoint::StoreValue { number, row, value });
+        self.rows.get(number).copied().unwrap_or(0)
     }
 
-    // A batch on so many values begins to read those that it gets, behind the row. Where there are none, it has taken effect.
-    fn read(&mut self, caller: u32, queued: u64, row: u32, left: u32, now: usize)
-        requires may { MayEnd self.old }
-        requires some { 0 < self.old.answers.capacity }
-        ensures reads { call_of self.new ≡ reads_on now caller (call_of self.old) queued row left [] }
-        ensures ready { IsReady self.old.answers.capacity self.old.named.capacity self.new }
+    // What a batch says, with the first and the last of its rows.
+    fn with_rows(&self, notice: Notice) -> Notice
+        ensures { result ≡ with_rows notice self.now.rows.items }
     {
-        self.values.clear();
-        if left == 0 {
-            self.close(caller, Closing::Batch(queued), now);
-        } else {
-            let left = left - 1;
-            self.point = Point::Answer(AnswerPoint::LoadLink { queued, row, left });
+        Notice {
+            first: self.row(0),
+            last: self.row(self.rows.len().saturating_sub(1)),
+            ..notice
         }
     }
 
-    // It has read this value, the one of the row. Where no more are left, it has taken effect.
-    fn read_more(&mut self, caller: u32, queued: u64, row: u32, left: u32, value: u64, now: usize)
+    // A batch links its row of this number to the next one, or, where it is the last one, chooses an announcement.
+    fn link_on(&mut self, shape: &Shape, caller: u32, notice: Notice, number: u32, last: bool)
+        requires may { MayEnd self.old }
+        requires known { caller < shape.now.callers }
+        ensures links { call_of self.new ≡ links_on (lane_sizes shape.now) caller (call_of self.old) notice number last }
+        ensures ready { IsReady self.old.answers.capacity self.old.named.capacity self.new }
+    {
+        if last {
+            self.listen(shape, caller, notice);
+        } else {
+            let chain = FillPoint::StoreChain {
+                number,
+                row: self.row(number as usize),
+                next: self.row(number as usize + 1),
+            };
+            self.point = Point::Fill(notice, chain);
+        }
+    }
+
+    // A batch has filled this row: it takes one for its next enqueue, or links its rows.
+    fn fill(&mut self, shape: &Shape, caller: u32, notice: Notice, row: u32)
+        requires may { MayEnd self.old }
+        requires known { caller < shape.now.callers }
+        requires room { vec_len self.old.rows < vec_capacity self.old.rows }
+        ensures fills { call_of self.new ≡ fills_row (lane_sizes shape.now) caller (record (call_of self.old) { rows = self.old.rows.items ++ row ∷ [] }) notice }
+        ensures ready { IsReady self.old.answers.capacity self.old.named.capacity self.new }
+    {
+        self.rows.push_reserved(row);
+        if self.rows.len() == notice.counts.enqs as usize {
+            let only = self.rows.len() == 1;
+            let notice = self.with_rows(notice);
+            self.link_on(shape, caller, notice, 0, only);
+        } else {
+            let value = self.puts.get(self.rows.len()).copied().unwrap_or(0);
+            self.point = search(shape, caller, Taking::Batch(notice, value));
+        }
+    }
+
+    // A batch of dequeues alone has taken this stopper, and chooses an announcement.
+    fn stop(&mut self, shape: &Shape, caller: u32, notice: Notice, row: u32)
+        requires may { MayEnd self.old }
+        requires known { caller < shape.now.callers }
+        requires some { 0 < vec_capacity self.old.rows }
+        ensures stops { call_of self.new ≡ listening (lane_sizes shape.now) caller (record (call_of self.old) { rows = row ∷ [] }) (with_rows notice (row ∷ [])) 0 [] }
+        ensures ready { IsReady self.old.answers.capacity self.old.named.capacity self.new }
+    {
+        self.rows.clear();
+        self.rows.push_reserved(row);
+        let notice = self.with_rows(notice);
+        self.listen(shape, caller, notice);
+    }
+
+    // A batch has read some values, and goes on from the row where some are left. Else it marks the rows that it passed.
+    fn read_on(&mut self, caller: u32, reading: Reading, row: u32, left: u32, now: usize)
+        requires may { MayEnd self.old }
+        requires some { 0 < self.old.answers.capacity }
+        ensures reads { call_of self.new ≡ reads_on now caller (call_of self.old) reading row left self.old.values.items self.old.walked.items }
+        ensures ready { IsReady self.old.answers.capacity self.old.named.capacity self.new }
+    {
+        if left == 0 {
+            self.mark_all(
+                caller,
+                Closing::Batch(reading.queued),
+                reading.stopped,
+                reading.dummy,
+                now,
+            );
+        } else {
+            let left = left - 1;
+            self.point = Point::Answer(AnswerPoint::LoadLink { reading, row, left });
+        }
+    }
+
+    // It begins to read them.
+    fn read(&mut self, caller: u32, reading: Reading, row: u32, left: u32, linked: bool, now: usize)
+        requires may { MayEnd self.old }
+        requires some { 0 < self.old.answers.capacity }
+        ensures reads { call_of self.new ≡ reads_on now caller (record (call_of self.old) { rows = rows_left linked self.old.rows.items }) reading row left [] [] }
+        ensures ready { IsReady self.old.answers.capacity self.old.named.capacity self.new }
+    {
+        if linked {
+            self.rows.clear();
+        }
+        self.values.clear();
+        self.walked.clear();
+        self.read_on(caller, reading, row, left, now);
+    }
+
+    // It has read this value, the one of the row.
+    fn read_more(
+        &mut self,
+        caller: u32,
+        reading: Reading,
+        row: u32,
+        left: u32,
+        value: u64,
+        now: usize,
+    )
         requires may { MayEnd self.old }
         requires some { 0 < self.old.answers.capacity }
         requires room { vec_len self.old.values < vec_capacity self.old.values }
-        ensures reads { call_of self.new ≡ reads_on now caller (call_of self.old) queued row left (self.old.values.items ++ value ∷ []) }
+        requires rows { vec_len self.old.walked < vec_capacity self.old.walked }
+        ensures reads { call_of self.new ≡ reads_on now caller (call_of self.old) reading row left (self.old.values.items ++ value ∷ []) (self.old.walked.items ++ row ∷ []) }
         ensures ready { IsReady self.old.answers.capacity self.old.named.capacity self.new }
     {
         self.values.push_reserved(value);
-        if left == 0 {
-            self.close(caller, Closing::Batch(queued), now);
-        } else {
-            let left = left - 1;
-            self.point = Point::Answer(AnswerPoint::LoadLink { queued, row, left });
-        }
+        self.walked.push_reserved(row);
+        self.read_on(caller, reading, row, left, now);
     }
 
     // A batch of dequeues alone begins its walk, with no value read.
     fn walk(&mut self, point: Point)
         requires { MayEnd self.old }
-        ensures walks { call_of self.new ≡ stepped_with (call_of self.old) point [] }
+        ensures walks { call_of self.new ≡ stepped_with (call_of self.old) point [] [] }
         ensures ready { IsReady self.old.answers.capacity self.old.named.capacity self.new }
     {
         self.values.clear();
+        self.walked.clear();
         self.point = point;
     }
 
-    // A batch of dequeues alone goes on with its walk, with one more value read.
-    fn walk_on(&mut self, point: Point, value: u64)
+    // A batch of dequeues alone goes on with its walk, with one more value read, of this row.
+    fn walk_on(&mut self, point: Point, row: u32, value: u64)
         requires may { MayEnd self.old }
         requires room { vec_len self.old.values < vec_capacity self.old.values }
-        ensures walks { call_of self.new ≡ stepped_with (call_of self.old) point (self.old.values.items ++ value ∷ []) }
+        requires rows { vec_len self.old.walked < vec_capacity self.old.walked }
+        ensures walks { call_of self.new ≡ stepped_with (call_of self.old) point (self.old.values.items ++ value ∷ []) (self.old.walked.items ++ row ∷ []) }
         ensures ready { IsReady self.old.answers.capacity self.old.named.capacity self.new }
     {
         self.values.push_reserved(value);
+        self.walked.push_reserved(row);
         self.point = point;
     }
 
@@ -312,30 +336,59 @@ impl Call {
     {
         match self.point.course(found) {
             Course::GoesOn(point) => self.point = point,
-            Course::Ends(answer) => self.close(caller, Closing::Plain(answer), now),
-            Course::Fills {
-                notice,
-                number,
+            Course::Closes(closing) => self.close(caller, closing, now),
+            Course::Lacks => self.close(caller, Closing::Full, now),
+            Course::Passes {
+                closing,
+                dummy,
                 row,
-            } => self.fill(notice, number, row),
-            Course::Scans(notice) => self.scan(shape, caller, notice),
+            } => self.pass(caller, closing, dummy, row, now),
+            Course::Fills { notice, row } => self.fill(shape, caller, notice, row),
+            Course::Chains { notice, number } => {
+                let last = number as usize + 2 == self.rows.len();
+                self.link_on(shape, caller, notice, number + 1, last);
+            }
+            Course::Stops { notice, row } => self.stop(shape, caller, notice, row),
+            Course::Takes(taking) => self.point = search(shape, caller, taking),
             Course::Hears {
                 notice,
                 caller: other,
                 named,
             } => self.hear(shape, caller, notice, other, named),
             Course::Guards(point, hold) => self.guard(point, hold),
-            Course::Reads { queued, row, left } => self.read(caller, queued, row, left, now),
+            Course::Holds(point, hold) => self.guard_row(point, hold),
+            Course::Reads {
+                reading,
+                row,
+                left,
+                linked,
+            } => self.read(caller, reading, row, left, linked, now),
             Course::ReadsMore {
-                queued,
+                reading,
                 row,
                 left,
                 value,
-            } => self.read_more(caller, queued, row, left, value, now),
+            } => self.read_more(caller, reading, row, left, value, now),
             Course::Walks(point) => self.walk(point),
-            Course::WalksMore(point, value) => self.walk_on(point, value),
-            Course::Answers(queued) => self.close(caller, Closing::Batch(queued), now),
-            Course::Clears(closing) => self.clear(caller, closing, now),
+            Course::WalksMore { point, row, value } => self.walk_on(point, row, value),
+            Course::Moves { dummy, queued } => {
+                self.mark_all(caller, Closing::Batch(queued), false, dummy, now);
+            }
+            Course::Marks {
+                closing,
+                place,
+                both,
+                stopped,
+            } => self.mark(caller, closing, place, both, stopped, now),
+            Course::Retires { closing, row } => self.retire(caller, closing, row, now),
+            Course::ClearsNode(closing) => self.clear_node(caller, closing, now),
+            Course::ClearsAnn(closing) => self.clear_ann(caller, closing, now),
+            Course::Finds {
+                closing,
+                caller: other,
+                named,
+            } => self.find(shape, caller, closing, other, named, now),
+            Course::Frees(closing) => self.free(caller, closing, now),
         }
     }
 }

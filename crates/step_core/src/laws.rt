@@ -1,15 +1,15 @@
 // Laws of schedules. Each is proved of every list of events; the functions do nothing.
-ghost use Rattle.std.specs.Prelude.{◌≡◌, ℕ, List, map, Ok, Some};
+ghost use Rattle.std.specs.Prelude.{◌≡◌, ℕ, List, [], map, Ok, Some};
 ghost use Rattle.bq_model.specs.declared.group.Group.{Group};
 ghost use Rattle.bq_model.specs.declared.shape.Shape.{Shape};
 ghost use Rattle.bq_model.specs.Own.{mine};
-ghost use Rattle.core_model.specs.declared.point.CallEnd.TheVariants.{Done};
-ghost use Rattle.core_model.specs.declared.point.Point.TheVariants.{Idle};
+ghost use Rattle.lane_steps.specs.declared.point.CallEnd.TheVariants.{Done};
+ghost use Rattle.lane_steps.specs.declared.point.Point.TheVariants.{Idle};
 ghost use Rattle.core_model.specs.Ended.{EndedDone};
-ghost use Rattle.core_model.specs.LaneSizes.{lane_sizes};
+ghost use Rattle.lane_steps.specs.LaneSizes.{lane_sizes};
 ghost use Rattle.core_model.specs.Lawful.{Lawful};
-ghost use Rattle.core_model.specs.Start.{opening};
-ghost use Rattle.core_model.specs.State.{State};
+ghost use Rattle.lane_steps.specs.Start.{opening};
+ghost use Rattle.lane_steps.specs.State.{State};
 ghost use Rattle.step_core.specs.declared.schedule.Event.{Event};
 ghost use Rattle.step_core.specs.Schedule.{schedule};
 ghost use Rattle.step_core.specs.Started.{all_started};
@@ -28,5 +28,5 @@ pub fn every_schedule_leaves_a_lawful_lane()
 pub fn groups_are_the_commands_that_were_started()
     ensures { (shape : Shape) (events : List Event) (s : State) (c : ℕ)
         → schedule shape (opening (lane_sizes shape)) 0 events ≡ Ok s → (s.callers c).point ≡ Idle
-        → map (λ (g : Group). g.ops) (mine s.history c) ≡ all_started shape (opening (lane_sizes shape)) c events }
+        → map (λ (g : Group). g.ops) (mine s.history c) ≡ all_started shape (opening (lane_sizes shape)) c [] events }
 {}

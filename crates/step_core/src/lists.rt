@@ -1,13 +1,13 @@
 // The machine's state in lists. It shows a lawful lane between any two steps, and all memory that the running commands
 // will need is there.
 ghost use Rattle.std.specs.Prelude.{◌≡◌, ◌≢◌, ℕ, ◌+◌, ◌<◌, ◌≤◌, ◌++◌, [], ◌∷◌, IsTrue, IfOk, IfSome, length, slice_get, cond, All, vec_len, vec_capacity, Some};
-ghost use Rattle.core_model.specs.declared.point.Point.TheVariants.{Idle};
-ghost use Rattle.core_model.specs.Functions.{put};
-ghost use Rattle.core_model.specs.Kind.{kind_of};
-ghost use Rattle.core_model.specs.LaneSizes.{lane_sizes};
-ghost use Rattle.core_model.specs.Start.{newcomer, opening};
-ghost use Rattle.core_model.specs.State.{own_group};
-ghost use Rattle.core_model.specs.Step.{after, linearizes, history_with, group_owner, next};
+ghost use Rattle.lane_steps.specs.declared.point.Point.TheVariants.{Idle};
+ghost use Rattle.lane_steps.specs.Functions.{put};
+ghost use Rattle.lane_steps.specs.Kind.{kind_of};
+ghost use Rattle.lane_steps.specs.LaneSizes.{lane_sizes};
+ghost use Rattle.lane_steps.specs.Start.{newcomer, opening};
+ghost use Rattle.lane_steps.specs.State.{own_group};
+ghost use Rattle.lane_steps.specs.Step.{after, linearizes, history_with, group_owner, next};
 ghost use Rattle.step_core.specs.Calls.{call_of, IsReady, MayGo};
 ghost use Rattle.step_core.specs.Due.{due};
 ghost use Rattle.step_core.specs.Lists.{callers_of, state_of, copy_at, all_due, MayLinearize, IsSound};
@@ -15,20 +15,20 @@ ghost use Rattle.step_core.specs.Lists.{callers_of, state_of, copy_at, all_due, 
 use crate::call::Call;
 use crate::words::Words;
 use bq_model::{Group, Ops, OutOfMemory, Shape};
-use core_model::{HelpPoint, Point, StepKind};
+use lane_steps::{HelpPoint, Point, StepKind};
 use std::alloc::Global;
 use std::mem;
 use word_rows::{Content, anns, rows};
 
 // So many callers that made no command yet.
-fn newcomers(alloc: Global, callers: u32, batch: u32) -> Result<Vec<Call>, OutOfMemory>
-    ensures len { IfOk result (λ calls. vec_len calls ≡ callers) }
+fn newcomers(alloc: Global, shape: &Shape) -> Result<Vec<Call>, OutOfMemory>
+    ensures len { IfOk result (λ calls. vec_len calls ≡ shape.now.callers) }
     ensures newcomers { IfOk result (λ calls. All (λ call. call_of call ≡ newcomer) calls.items) }
-    ensures ready { IfOk result (λ calls. All (IsReady batch callers) calls.items) }
+    ensures ready { IfOk result (λ calls. All (IsReady shape.now.batch shape.now.callers) calls.items) }
 {
     let mut calls = Vec::new(alloc);
-    for _made in 0..callers {
-        calls.push(Call::new(alloc, batch, callers)?)?;
+    for _made in 0..shape.callers() {
+        calls.push(Call::new(alloc, shape)?)?;
     }
     Ok(calls)
 }
@@ -82,7 +82,7 @@ impl Lists {
             shape.callers() as usize,
             shape.first_count(),
         )?;
-        let calls = newcomers(alloc, shape.callers(), shape.batch())?;
+        let calls = newcomers(alloc, &shape)?;
         let copies = no_copies(alloc, shape.callers())?;
         Ok(Lists {
             alloc,

@@ -1,20 +1,19 @@
 // A machine, which shows a lawful lane between any two steps.
 ghost use Rattle.std.specs.Prelude.{◌≡◌, ◌≢◌, ◌↔◌, ◌<◌, ◌≤◌, IfOk, IsNone, Ok, Some, [], length};
-ghost use Rattle.bq_model.specs.Own.{mine};
 ghost use Rattle.bq_model.specs.Proper.{IsProper};
-ghost use Rattle.core_model.specs.declared.point.Point.TheVariants.{Idle};
+ghost use Rattle.lane_steps.specs.declared.point.Point.TheVariants.{Idle};
 ghost use Rattle.core_model.specs.Kept.{LastDone};
-ghost use Rattle.core_model.specs.LaneSizes.{lane_sizes};
-ghost use Rattle.core_model.specs.Kind.{kind_of};
-ghost use Rattle.core_model.specs.Step.{next};
-ghost use Rattle.core_model.specs.Start.{PassesAllowance, IsCommand, LacksRows, start, opening};
+ghost use Rattle.lane_steps.specs.LaneSizes.{lane_sizes};
+ghost use Rattle.lane_steps.specs.Kind.{kind_of};
+ghost use Rattle.lane_steps.specs.Step.{next};
+ghost use Rattle.lane_steps.specs.Start.{PassesAllowance, IsCommand, start, opening};
 ghost use Rattle.core_model.specs.Lawful.{Lawful};
 ghost use Rattle.step_core.specs.Machine.{caller_at, state_at};
 
 use crate::lists::Lists;
 use crate::starts::Started;
 use bq_model::{Answers, Group, Op, OutOfMemory, Shape};
-use core_model::{CallEnd, StepKind};
+use lane_steps::{CallEnd, StepKind};
 use std::alloc::Global;
 use std::marker::Model;
 
@@ -63,7 +62,8 @@ impl Machine {
         self.lists.shape.batch()
     }
 
-    /// Starts a command of an idle caller: one operation is a plain call, and more are a batch. It takes all memory that the command's steps need. A command for which no row is left ends with Full at once.
+    /// Starts a command of an idle caller: one operation is a plain call, and more are a batch. It takes all memory that
+    /// the command's steps need.
     pub fn start(&mut self, caller: u32, ops: &[Op]) -> Result<Started, OutOfMemory>
         requires known { caller < self.old.shape.callers }
         requires idle { (caller_at self.old caller).point ≡ Idle }
@@ -71,10 +71,7 @@ impl Machine {
         requires most { length ops.now ≤ self.old.shape.batch }
         ensures spent { (result ≡ Ok Started.Spent) ↔ PassesAllowance (lane_sizes self.old.shape) (caller_at self.old caller) (length ops.now) }
         ensures running { (result ≡ Ok Started.Running) → state_at self.new ≡ start (lane_sizes self.old.shape) (state_at self.old) caller ops.now }
-        ensures full { (result ≡ Ok Started.Running) → ((caller_at self.new caller).point ≡ Idle)
-            ↔ LacksRows (lane_sizes self.old.shape) (mine self.old.history caller) ops.now }
-        ensures full_is_told { (result ≡ Ok Started.Running) → LacksRows (lane_sizes self.old.shape) (mine self.old.history caller) ops.now
-            → (caller_at self.new caller).outcome ≡ Some CallEnd.Full }
+        ensures runs { (result ≡ Ok Started.Running) → (caller_at self.new caller).point ≢ Idle }
         ensures refusal_changes_nothing { result ≢ Ok Started.Running → state_at self.new ≡ state_at self.old }
         ensures shape { self.new.shape ≡ self.old.shape }
     {

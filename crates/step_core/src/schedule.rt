@@ -2,8 +2,8 @@
 ghost use Rattle.std.specs.Prelude.{◌≡◌, ◌<◌, ℕ, nat_lt, IfOk, OnOk, Ok, Err, None};
 ghost use Rattle.step_core.specs.declared.schedule.EventCause.{EventCause};
 ghost use Rattle.step_core.specs.declared.schedule.ScheduleRefused.TheVariants.{Memory};
-ghost use Rattle.core_model.specs.LaneSizes.{lane_sizes};
-ghost use Rattle.core_model.specs.Start.{opening};
+ghost use Rattle.lane_steps.specs.LaneSizes.{lane_sizes};
+ghost use Rattle.lane_steps.specs.Start.{opening};
 ghost use Rattle.step_core.specs.Machine.{caller_at, state_at};
 ghost use Rattle.step_core.specs.Commands.{is_command};
 ghost use Rattle.step_core.specs.Due.{is_idle};
@@ -12,7 +12,7 @@ ghost use Rattle.step_core.specs.Schedule.{cause_of, after_event, schedule};
 use crate::machine::Machine;
 use crate::starts::Started;
 use bq_model::{Op, Ops, OutOfMemory, Shape};
-use core_model::StepKind;
+use lane_steps::StepKind;
 use std::alloc::Global;
 
 /// Something that happens to a machine.

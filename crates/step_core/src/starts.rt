@@ -4,26 +4,23 @@ ghost use Rattle.bq_model.specs.declared.op.Op.{Op};
 ghost use Rattle.excess_count.specs.Counts.{counts_of};
 ghost use Rattle.excess_count.specs.Excess.{enqueue_count};
 ghost use Rattle.bq_model.specs.Values.{enqueued};
-ghost use Rattle.word_rows.specs.Sizes.{items_of};
-ghost use Rattle.core_model.specs.declared.point.Point.TheVariants.{Idle};
-ghost use Rattle.core_model.specs.Batches.{notice_of};
-ghost use Rattle.core_model.specs.Functions.{put};
-ghost use Rattle.core_model.specs.LaneSizes.{lane_sizes};
-ghost use Rattle.core_model.specs.Start.{PassesAllowance, IsCommand, has_rows, first_point, started, refused, start};
-ghost use Rattle.core_model.specs.State.{Caller};
+ghost use Rattle.lane_steps.specs.declared.point.Point.TheVariants.{Idle};
+ghost use Rattle.lane_steps.specs.Functions.{put};
+ghost use Rattle.lane_steps.specs.LaneSizes.{lane_sizes};
+ghost use Rattle.lane_steps.specs.Start.{PassesAllowance, IsCommand, first_point, begun, start};
+ghost use Rattle.lane_steps.specs.State.{Caller};
 ghost use Rattle.step_core.specs.Lists.{callers_of, state_of, IsSound};
 
 use crate::lists::Lists;
 use bq_model::{Op, Ops, OutOfMemory, Shape};
-use core_model::{Stock, stoppers_taken};
 use excess_count::{Counts, count};
+use lane_steps::first_point;
 use std::alloc::Global;
-use word_rows::{items, stoppers};
 
 /// What became of the start of a command.
 #[derive(Clone, Copy, Debug, PartialEq, Eq, Hash)]
 pub enum Started {
-    /// The command runs, or it has ended with Full already.
+    /// The command runs.
     Running,
     /// The caller's operations would pass the allowance, and there is no command.
     Spent,
@@ -69,65 +66,19 @@ impl Lists {
         self.shape.allowance() - made < more as u64
     }
 
-    fn stock(&self, caller: u32) -> Stock
-        requires { caller < vec_len self.now.calls }
-        ensures taken { result.taken ≡ (callers_of self.now.calls.items caller).taken }
-        ensures stopped { result.stopped ≡ (callers_of self.now.calls.items caller).stopped }
-        ensures batch { result.batch ≡ length (callers_of self.now.calls.items caller).mine }
-    {
-        let call = &self.calls[caller as usize];
-        Stock {
-            taken: call.taken,
-            stopped: call.stopped,
-            batch: call.mine.len() as u64,
-        }
-    }
-
-    // Whether rows are left for so many enqueues and operations.
-    fn has_rows(&self, caller: u32, enqs: u32, operations: usize) -> bool
-        requires sound { IsSound self.now }
-        requires known { caller < self.now.shape.callers }
-        requires few { enqs < 2 ^ 16 }
-        ensures { (ops : List Op) → enqs ≡ enqueue_count ops → operations ≡ length ops
-            → result ≡ has_rows (lane_sizes self.now.shape) (callers_of self.now.calls.items caller) ops }
-    {
-        let stock = self.stock(caller);
-        let rows = stock.taken + enqs <= items(&self.shape);
-        let taken = stock.stopped + stoppers_taken(operations, enqs);
-        rows && taken <= stoppers(&self.shape)
-    }
-
-    // Takes the memory that a command of the caller needs: for its group in the history, for the values that it reads, and
-    // for its end.
-    fn reserve(&mut self, caller: u32, more: usize) -> Result<(), OutOfMemory>
+    // Takes the memory that a command of the caller needs: for its group in the history, and for its end.
+    fn reserve(&mut self, caller: u32) -> Result<(), OutOfMemory>
         requires sound { IsSound self.old }
         requires known { caller < self.old.shape.callers }
         ensures same { state_of self.new ≡ state_of self.old }
         ensures shape { self.new.shape ≡ self.old.shape }
         ensures sound { IsSound self.new }
         ensures history { OnOk result (vec_len self.new.history + vec_len self.new.calls ≤ vec_capacity self.new.history) }
-        ensures room { OnOk result (IfSome (slice_get self.new.calls.items caller) (λ k. (vec_len k.mine < vec_capacity k.mine) × (more ≤ vec_capacity k.values))) }
+        ensures room { OnOk result (IfSome (slice_get self.new.calls.items caller) (λ k. vec_len k.mine < vec_capacity k.mine)) }
     {
         self.history.reserve(self.calls.len())?;
         let call = &mut self.calls[caller as usize];
-        call.reserve(more)
-    }
-
-    // The command ends with Full at once.
-    fn refuse(&mut self, caller: u32)
-        requires sound { IsSound self.old }
-        requires known { caller < self.old.shape.callers }
-        requires idle { (callers_of self.old.calls.items caller).point ≡ Idle }
-        ensures memory { (state_of self.new).memory ≡ (state_of self.old).memory }
-        ensures history { (state_of self.new).history ≡ (state_of self.old).history }
-        ensures callers { callers_of self.new.calls.items ≡ put (callers_of self.old.calls.items) caller
-            (refused (lane_sizes self.old.shape) (vec_len self.old.history) caller (callers_of self.old.calls.items caller)) }
-        ensures sound { IsSound self.new }
-        ensures shape { self.new.shape ≡ self.old.shape }
-    {
-        let now = self.history.len();
-        let call = &mut self.calls[caller as usize];
-        call.refuse(now);
+        call.reserve()
     }
 
     // The command begins, with its operations, a copy of them and the values of its enqueues.
@@ -138,31 +89,31 @@ impl Lists {
         requires command { IsCommand ops }
         requires most { length ops ≤ self.old.shape.batch }
         requires left { ¬ (PassesAllowance (lane_sizes self.old.shape) (callers_of self.old.calls.items caller) (length ops)) }
-        requires rows { has_rows (lane_sizes self.old.shape) (callers_of self.old.calls.items caller) ops ≡ true }
         requires history { vec_len self.old.history + vec_len self.old.calls ≤ vec_capacity self.old.history }
-        requires room { IfSome (slice_get self.old.calls.items caller) (λ k. (vec_len k.mine < vec_capacity k.mine) × (length ops ≤ vec_capacity k.values)) }
+        requires room { IfSome (slice_get self.old.calls.items caller) (λ k. vec_len k.mine < vec_capacity k.mine) }
         requires counts { counts ≡ counts_of ops }
         requires copy { copy ≡ ops }
         requires puts { puts.items ≡ enqueued ops }
         ensures memory { (state_of self.new).memory ≡ (state_of self.old).memory }
         ensures history_stays { (state_of self.new).history ≡ (state_of self.old).history }
         ensures callers { callers_of self.new.calls.items ≡ put (callers_of self.old.calls.items) caller
-            (started (lane_sizes self.old.shape) (vec_len self.old.history) caller (callers_of self.old.calls.items caller) ops) }
+            (begun (lane_sizes self.old.shape) (vec_len self.old.history) caller (callers_of self.old.calls.items caller) ops) }
         ensures sound { IsSound self.new }
         ensures shape { self.new.shape ≡ self.old.shape }
     {
         let now = self.history.len();
-        let stock = self.stock(caller);
-        let point = stock.first_point(&self.shape, caller, ops.as_slice(), counts, puts.as_slice());
-        let operations = ops.len();
-        let stock = Stock {
-            taken: stock.taken + counts.enqs,
-            stopped: stock.stopped + stoppers_taken(operations, counts.enqs),
-            batch: stock.batch,
-        };
+        let batch = self.calls[caller as usize].mine.len() as u64;
+        let point = first_point(
+            &self.shape,
+            caller,
+            batch,
+            ops.as_slice(),
+            counts,
+            puts.as_slice(),
+        );
         self.copies[caller as usize] = copy;
         let call = &mut self.calls[caller as usize];
-        call.begin(point, ops, puts, stock, now);
+        call.begin(point, ops, puts, now);
     }
 
     /// Starts a command.
@@ -182,14 +133,10 @@ impl Lists {
             return Ok(Started::Spent);
         }
         let counts = count(ops);
-        if !self.has_rows(caller, counts.enqs, ops.len()) {
-            self.refuse(caller);
-            return Ok(Started::Running);
-        }
         let own = copied(self.alloc, ops)?;
         let copy = copied(self.alloc, ops)?;
         let puts = puts_of(self.alloc, ops)?;
-        self.reserve(caller, ops.len())?;
+        self.reserve(caller)?;
         self.begin(caller, counts, own, copy, puts);
         Ok(Started::Running)
     }

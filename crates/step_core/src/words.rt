@@ -1,18 +1,18 @@
-// The words of a lane that steps touch: HEAD, TAIL, the LINK and the VALUE of each row, the ANN_HAZARD of each caller, and the
+// The words of a lane: HEAD, TAIL, the LINK, the VALUE and the MARK of each row, the two hazard words of each caller, and the
 // words of each announcement.
-ghost use Rattle.std.specs.Prelude.{◌≡◌, ◌<◌, IfOk, vec_len};
+ghost use Rattle.std.specs.Prelude.{◌≡◌, ◌<◌, ◌^◌, ℕ, IfOk, slice_index_or, vec_len};
 ghost use Rattle.word_rows.specs.Opening.{opening_marks};
-ghost use Rattle.core_model.specs.Ranges.{IsWord};
-ghost use Rattle.core_model.specs.State.{read, read_field, write, write_field};
+ghost use Rattle.lane_steps.specs.Ranges.{IsWord};
+ghost use Rattle.lane_steps.specs.State.{read, read_field, write, write_field};
 ghost use Rattle.step_core.specs.Words.{memory_of, opening_words, sizes_of, sizes_for};
 
 use bq_model::OutOfMemory;
-use core_model::{Notice, hazard_in, head_in, link_in, old_tail_in, tail_in, value_in};
+use lane_steps::{Notice, hazard_in, head_in, link_in, mark_in, old_tail_in, tail_in, value_in};
 use std::alloc::Global;
 use word_rows::{AnnField, Content, HeadWord, LinkWord, Location, Marks, Place};
 
 /// The words, as what they hold.
-#[derive(Debug, Drop)]
+#[derive(Drop)]
 pub struct Words {
     pub head: HeadWord,
     pub tail: Place,
@@ -24,18 +24,31 @@ pub struct Words {
     pub notices: Vec<Notice>,
     /// Of each caller the announcement that its ANN_HAZARD names.
     pub ann_hazards: Vec<Option<u32>>,
+    /// Of each row READ, PASSED and FREE.
+    pub marks: Vec<Marks>,
+    /// Of each caller the row that its NODE_HAZARD names.
+    pub node_hazards: Vec<Option<u32>>,
 }
 
-// The marks of a row, which no step touches yet.
-fn opening_marks(row: u32) -> Marks
-    ensures { result ≡ opening_marks row }
+// The marks of so many rows of an empty lane: all are free but the first dummy, whose value counts as read.
+fn first_marks(alloc: Global, rows: usize) -> Result<Vec<Marks>, OutOfMemory>
+    requires { 0 < rows }
+    ensures len { IfOk result (λ marks. vec_len marks ≡ rows) }
+    ensures opening { IfOk result (λ marks. (λ r. slice_index_or marks.items r (opening_marks r)) ≡ opening_marks) }
 {
-    let is_free = row != 0;
-    Marks {
+    let dummy = Marks {
         read: true,
-        passed: is_free,
-        free: is_free,
-    }
+        passed: false,
+        free: false,
+    };
+    let unused = Marks {
+        read: true,
+        passed: true,
+        free: true,
+    };
+    let mut marks = vec![in alloc; unused; rows]?;
+    marks[0] = dummy;
+    Ok(marks)
 }
 
 impl Words {
@@ -47,6 +60,7 @@ impl Words {
         callers: usize,
         first: u64,
     ) -> Result<Words, OutOfMemory>
+        requires { 0 < rows }
         ensures opening { IfOk result (λ words. memory_of words ≡ opening_words first) }
         ensures sizes { IfOk result (λ words. sizes_of words ≡ sizes_for rows anns callers) }
     {
@@ -62,6 +76,8 @@ impl Words {
             old_tails: vec![in alloc; None; anns]?,
             notices: vec![in alloc; Notice::blank(); anns]?,
             ann_hazards: vec![in alloc; None; callers]?,
+            marks: first_marks(alloc, rows)?,
+            node_hazards: vec![in alloc; None; callers]?,
         })
     }
 
@@ -80,7 +96,8 @@ impl Words {
     /// What the word holds.
     pub fn read(&self, word: Location) -> Content
         requires links { IsWord (vec_len self.now.links) (vec_len self.now.ann_hazards) (vec_len self.now.old_tails) word }
-        requires values { IsWord (vec_len self.now.values) (vec_len self.now.ann_hazards) (vec_len self.now.notices) word }
+        requires values { IsWord (vec_len self.now.values) (vec_len self.now.node_hazards) (vec_len self.now.notices) word }
+        requires marks { IsWord (vec_len self.now.marks) (vec_len self.now.node_hazards) (vec_len self.now.notices) word }
         ensures { result ≡ read (memory_of self.now) word }
     {
         match word {
@@ -89,8 +106,10 @@ impl Words {
             Location::Link { row } => Content::OfLink(self.links[row as usize]),
             Location::Value { row } => Content::OfValue(self.values[row as usize]),
             Location::AnnWord { ann, field } => self.read_field(ann, field),
-            Location::Mark { row } => Content::OfMark(opening_marks(row)),
-            Location::NodeHazard { .. } => Content::OfNodeHazard(None),
+            Location::Mark { row } => Content::OfMark(self.marks[row as usize]),
+            Location::NodeHazard { caller } => {
+                Content::OfNodeHazard(self.node_hazards[caller as usize])
+            }
             Location::AnnHazard { caller } => {
                 Content::OfAnnHazard(self.ann_hazards[caller as usize])
             }
@@ -116,7 +135,8 @@ impl Words {
     /// Stores into the word.
     pub fn write(&mut self, word: Location, content: Content)
         requires links { IsWord (vec_len self.old.links) (vec_len self.old.ann_hazards) (vec_len self.old.old_tails) word }
-        requires values { IsWord (vec_len self.old.values) (vec_len self.old.ann_hazards) (vec_len self.old.notices) word }
+        requires values { IsWord (vec_len self.old.values) (vec_len self.old.node_hazards) (vec_len self.old.notices) word }
+        requires marks { IsWord (vec_len self.old.marks) (vec_len self.old.node_hazards) (vec_len self.old.notices) word }
         ensures memory { memory_of self.new ≡ write (memory_of self.old) word content }
         ensures sizes_stay { sizes_of self.new ≡ sizes_of self.old }
     {
@@ -129,7 +149,10 @@ impl Words {
             Location::AnnHazard { caller } => self.ann_hazards[caller as usize] = hazard_in(
                 content,
             ),
-            _ => {}
+            Location::Mark { row } => self.marks[row as usize] = mark_in(content),
+            Location::NodeHazard { caller } => self.node_hazards[caller as usize] = hazard_in(
+                content,
+            ),
         }
     }
 }

@@ -1,6 +1,6 @@
 // Acts, as a table has them, and what they leave of a machine.
 ghost use Rattle.std.specs.Prelude.{◌≡◌, ◌≤◌, true, length};
-ghost use Rattle.core_model.specs.Start.{IsCommand};
+ghost use Rattle.lane_steps.specs.Start.{IsCommand};
 
 use bq_model::{Answer, Op, OutOfMemory};
 use std::alloc::Global;
@@ -45,10 +45,11 @@ pub fn is_at(machine: &Machine, caller: u32, kind: Option<StepKind>) -> bool {
 
 /// The caller makes its steps, until the next one is of this kind, or until it is idle.
 fn go_until(machine: &mut Machine, caller: u32, kind: Option<StepKind>) {
-    for _ in 0..2_000 {
-        if !is_at(machine, caller, kind) {
-            advance(machine, caller);
+    for _ in 0..20_000 {
+        if is_at(machine, caller, kind) {
+            return;
         }
+        advance(machine, caller);
     }
 }
 

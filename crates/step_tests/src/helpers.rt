@@ -74,7 +74,7 @@ fn helpers_that_stop_anywhere_leave_one_group(rt: HostRuntime) -> Result<(), Fai
         },
     ];
     for row in &rows {
-        for stop in 0..27 {
+        for stop in 0..50 {
             assert_helped(&rt, rt.alloc(), row, stop)?;
         }
     }

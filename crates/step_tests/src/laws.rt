@@ -9,7 +9,8 @@ fn laws_of_the_lane_are_there() {
     core_model::a_lane_opens_as_its_table();
     core_model::ended_commands_stand_in_the_history();
     core_model::held_announcements_are_left();
-    core_model::full_comes_exactly_without_a_row();
+    core_model::held_rows_are_left();
+    core_model::each_row_has_one_use();
     core_model::counts_stay_in_range();
     core_model::words_can_be_coded();
     core_model::words_show_the_last_queue();

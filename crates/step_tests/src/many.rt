@@ -1,9 +1,9 @@
 // Batches of dequeues alone by hand, with what each must answer and leave.
-use crate::acts::Act;
+use crate::acts::{Act, answers_of, do_it};
 use crate::batches::{Batches, assert_batches};
-use bq_model::{Answer, Op};
+use bq_model::{Answer, Op, Shape};
 use std::test::Fail;
-use step_core::StepKind;
+use step_core::{Machine, StepKind};
 
 /// Two dequeues, and three.
 const TWO: &[Op] = &[Op::Deq, Op::Deq];
@@ -207,40 +207,23 @@ fn dequeues_alone_are_announced_where_they_find_too_few(rt: HostRuntime) -> Resu
 }
 
 #[test]
-fn seventh_batch_of_dequeues_alone_finds_no_stopper(rt: HostRuntime) -> Result<(), Fail> {
-    // With batches of two a single caller has 2 + 1 * (2 + 1 + 1) stoppers, which is 6.
-    let row = Batches {
-        callers: 1,
-        batch: 2,
-        acts: &[
-            Act::Start(0, TWO),
-            Act::Finish(0),
-            Act::Start(0, TWO),
-            Act::Finish(0),
-            Act::Start(0, TWO),
-            Act::Finish(0),
-            Act::Start(0, TWO),
-            Act::Finish(0),
-            Act::Start(0, TWO),
-            Act::Finish(0),
-            Act::Start(0, TWO),
-            Act::Finish(0),
-            Act::Start(0, TWO),
-            Act::Finish(0),
-        ],
-        groups: &[
-            (0, 0, TWO),
-            (0, 1, TWO),
-            (0, 2, TWO),
-            (0, 3, TWO),
-            (0, 4, TWO),
-            (0, 5, TWO),
-        ],
-        caller: 0,
-        answers: &[],
-        queue: &[],
-    };
-    assert_batches(&rt, rt.alloc(), &row)
+fn stoppers_serve_a_hundred_batches(rt: HostRuntime) -> Result<(), Fail> {
+    // With batches of two a single caller has 2 + 1 * (2 + 1 + 1) stoppers, which is 6. Each batch links one of them.
+    let shape = Shape::new(1, 2, 8, 400, 0).ok_or("in limits")?;
+    let mut machine = Machine::new(rt.alloc(), &shape)?;
+    for value in 0..100 {
+        do_it(&mut machine, Act::Start(0, &[Op::Enq(value)]))?;
+        do_it(&mut machine, Act::Finish(0))?;
+        do_it(&mut machine, Act::Start(0, TWO))?;
+        do_it(&mut machine, Act::Finish(0))?;
+        let answers = answers_of(rt.alloc(), &machine, 0)?;
+        assert_eq!(rt;
+            answers.as_slice(),
+            [Answer::Got(value), Answer::Empty].as_slice()
+        );
+    }
+    assert_eq!(rt; machine.history().len(), 200);
+    Ok(())
 }
 
 #[test]

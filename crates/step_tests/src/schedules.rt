@@ -48,30 +48,30 @@ fn schedules_by_hand_leave_what_they_must(rt: HostRuntime) -> Result<(), Fail> {
             callers: 1,
             plays: &[
                 Play::Enq(0, 7),
-                Play::Steps(0, 5),
+                Play::Steps(0, 11),
                 Play::Deq(0),
-                Play::Steps(0, 5),
+                Play::Steps(0, 12),
             ],
             groups: &[(0, 0, Op::Enq(7)), (0, 1, Op::Deq)],
             answers: &[Some(Answer::Got(7))],
         },
-        // An empty queue: the head and its link are loaded, and that is all.
+        // An empty queue: the head and its link are loaded, and the hazard word is cleared.
         Row {
             callers: 1,
-            plays: &[Play::Deq(0), Play::Steps(0, 2)],
+            plays: &[Play::Deq(0), Play::Steps(0, 5)],
             groups: &[(0, 0, Op::Deq)],
             answers: &[Some(Answer::Empty)],
         },
-        // The enqueue stops before its last step. The dequeue moves the tail and begins again, and the enqueue's own
-        // exchange of the tail fails.
+        // The enqueue stops before it moves the tail. The dequeue moves it and begins again, and the enqueue's own exchange
+        // of the tail fails. The dequeue retires the first dummy and doesn't free it, since the enqueue holds it.
         Row {
             callers: 2,
             plays: &[
                 Play::Enq(0, 7),
-                Play::Steps(0, 4),
+                Play::Steps(0, 9),
                 Play::Deq(1),
-                Play::Steps(1, 9),
-                Play::Steps(0, 1),
+                Play::Steps(1, 18),
+                Play::Steps(0, 2),
             ],
             groups: &[(0, 0, Op::Enq(7)), (1, 0, Op::Deq)],
             answers: &[Some(Answer::Done), Some(Answer::Got(7))],
@@ -83,11 +83,11 @@ fn schedules_by_hand_leave_what_they_must(rt: HostRuntime) -> Result<(), Fail> {
             plays: &[
                 Play::Enq(0, 1),
                 Play::Enq(1, 2),
-                Play::Steps(0, 3),
-                Play::Steps(1, 3),
-                Play::Steps(0, 1),
+                Play::Steps(0, 8),
                 Play::Steps(1, 8),
                 Play::Steps(0, 1),
+                Play::Steps(1, 13),
+                Play::Steps(0, 2),
             ],
             groups: &[(0, 0, Op::Enq(1)), (1, 0, Op::Enq(2))],
             answers: &[Some(Answer::Done), Some(Answer::Done)],
@@ -97,13 +97,13 @@ fn schedules_by_hand_leave_what_they_must(rt: HostRuntime) -> Result<(), Fail> {
             callers: 3,
             plays: &[
                 Play::Enq(2, 4),
-                Play::Steps(2, 5),
+                Play::Steps(2, 11),
                 Play::Deq(0),
                 Play::Deq(1),
-                Play::Steps(0, 4),
-                Play::Steps(1, 4),
-                Play::Steps(1, 1),
-                Play::Steps(0, 3),
+                Play::Steps(0, 6),
+                Play::Steps(1, 6),
+                Play::Steps(1, 7),
+                Play::Steps(0, 6),
             ],
             groups: &[(2, 0, Op::Enq(4)), (1, 0, Op::Deq), (0, 0, Op::Deq)],
             answers: &[
@@ -148,8 +148,8 @@ fn first_event_that_cannot_happen_is_named(rt: HostRuntime) -> Result<(), Fail> 
             at(1, EventCause::BadBatch),
         ),
         (
-            [Play::Deq(0), Play::Steps(0, 3)].as_slice(),
-            at(3, EventCause::IdleCaller),
+            [Play::Deq(0), Play::Steps(0, 6)].as_slice(),
+            at(6, EventCause::IdleCaller),
         ),
     ];
     for (plays, refused) in cases {

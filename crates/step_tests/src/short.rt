@@ -58,7 +58,10 @@ fn notes_of(alloc: Global, machine: &mut Machine, choices: u32) -> Result<Notes,
     let mut first = Vec::new(alloc);
     let mut second = Vec::new(alloc);
     let mut left = choices;
-    for turn in 0..40 {
+    for turn in 0..120 {
+        if turn >= 8 && machine.next_kind(0).is_none() && machine.next_kind(1).is_none() {
+            break;
+        }
         let op = match left % 2 {
             0 => Op::Enq(u64::from(choices)),
             _ => Op::Deq,

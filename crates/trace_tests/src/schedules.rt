@@ -6,9 +6,11 @@ use std::process::Abort;
 use std::test::Fail;
 use trace_text::{Verdict, check_history, play_schedule};
 
+/// The seventh takes all six item rows of a caller, so that Full comes three times, once to a batch that has taken a row
+/// already. In the last one a stopped caller holds a row, and all others are taken before Full comes.
 #[test]
 fn schedules_give_their_histories(rt: HostRuntime) -> Result<(), Fail> {
-    let table: [(&[u8], &[u8], u64, u64); 13] = [
+    let table: [(&[u8], &[u8], u64, u64); 14] = [
         (b"shape 1 1 1 1 0\n", b"callers 1\n", 0, 0),
         (
             b"shape 2 4 8 100 0\nstart 0 e5 e6 d\nuntil 0 install\nstart 1 d\nfinish 1\n",
@@ -41,10 +43,10 @@ fn schedules_give_their_histories(rt: HostRuntime) -> Result<(), Fail> {
             1,
         ),
         (
-            b"shape 1 2 1 100 0\nstart 0 e1 d\nfinish 0\nstart 0 e2 d\nfinish 0\nstart 0 e3 e4\nfinish 0\nstart 0 e5 e6\nfinish 0\nstart 0 e7 d\nfinish 0\n",
-            b"callers 1\ngroup 0 0 e1 d1\ngroup 0 1 e2 d2\ngroup 0 2 e3 e4\ngroup 0 3 e5 e6\n# refused 0 full\n",
-            4,
-            8,
+            b"shape 1 2 1 100 0\nstart 0 e1 e2\nfinish 0\nstart 0 e3 e4\nfinish 0\nstart 0 e5 e6\nfinish 0\nstart 0 e7\nfinish 0\nstart 0 d\nfinish 0\nstart 0 e7 e8\nfinish 0\nstart 0 d\nfinish 0\nstart 0 e7 e8\nfinish 0\nstart 0 e7\nfinish 0\nstart 0 d d\nfinish 0\nstart 0 e8 e9\nfinish 0\nstart 0 d d\nfinish 0\nstart 0 d d\nfinish 0\nstart 0 d d\nfinish 0\n",
+            b"callers 1\ngroup 0 0 e1 e2\ngroup 0 1 e3 e4\ngroup 0 2 e5 e6\ngroup 0 3 d1\ngroup 0 4 d2\ngroup 0 5 e7\ngroup 0 6 d3 d4\ngroup 0 7 e8 e9\ngroup 0 8 d5 d6\ngroup 0 9 d7 d8\ngroup 0 10 d9 d-\n# refused 0 full\n# refused 0 full\n# refused 0 full\n",
+            11,
+            19,
         ),
         (
             b"shape 1 2 8 100 0\nstart 0 d\nuntil 0 install\nuntil 0 install",
@@ -81,6 +83,12 @@ fn schedules_give_their_histories(rt: HostRuntime) -> Result<(), Fail> {
             b"callers 2\ngroup 0 0 e4\ngroup 0 1 d4 d-\ngroup 1 0 d-\n# unfinished 0\n",
             3,
             4,
+        ),
+        (
+            b"shape 2 1 1 100 0\nstart 0 e1\nfinish 0\nstart 0 d\nfinish 0\nstart 1 d\nuntil 1 load_link\nstart 0 e2\nfinish 0\nstart 0 d\nfinish 0\nstart 0 e3\nfinish 0\nstart 0 e4\nfinish 0\nstart 0 e5\nfinish 0\nstart 0 e6\nfinish 0\nstart 0 e7\nfinish 0\nstart 0 e8\nfinish 0\nstart 0 e9\nfinish 0\nstart 0 e10\nfinish 0\nstart 0 e11\nfinish 0\nfinish 1\nstart 0 e11\nfinish 0\nstart 0 e12\nfinish 0\nstart 0 e13\nfinish 0\n",
+            b"callers 2\ngroup 0 0 e1\ngroup 0 1 d1\ngroup 0 2 e2\ngroup 0 3 d2\ngroup 0 4 e3\ngroup 0 5 e4\ngroup 0 6 e5\ngroup 0 7 e6\ngroup 0 8 e7\ngroup 0 9 e8\ngroup 0 10 e9\ngroup 0 11 e10\ngroup 1 0 d3\ngroup 0 12 e11\ngroup 0 13 e12\n# refused 0 full\n# refused 0 full\n",
+            15,
+            15,
         ),
     ];
     for (lines, history, groups, operations) in table {

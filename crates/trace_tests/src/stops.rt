@@ -11,9 +11,13 @@ use trace_text::{Verdict, check_history, play_schedule};
 #[test]
 fn caller_stops_before_each_kind_while_another_finishes(rt: HostRuntime) -> Result<(), Fail> {
     let seven: &[u8] = b"start 1 e7\nfinish 1\n";
-    let table: [(&[u8], &[u8], &[u8], &[u8], u64); 20] = [
+    let table: [(&[u8], &[u8], &[u8], &[u8], u64); 27] = [
         (b"", b"d", b"load_head", b"group 1 0 d-\n", 1),
+        (b"", b"e5", b"load_mark", b"group 1 0 d-\n", 1),
+        (b"", b"e5", b"clear_mark", b"group 1 0 d-\n", 1),
+        (b"", b"e5", b"clear_link", b"group 1 0 d-\n", 1),
         (b"", b"e5", b"load_tail", b"group 1 0 d-\n", 1),
+        (b"", b"e5", b"store_node_hazard", b"group 1 0 d-\n", 1),
         (b"", b"e5", b"load_link", b"group 1 0 d-\n", 1),
         (
             seven,
@@ -31,6 +35,27 @@ fn caller_stops_before_each_kind_while_another_finishes(rt: HostRuntime) -> Resu
             b"move_head",
             b"group 1 0 e7\ngroup 1 1 d7\n",
             2,
+        ),
+        (
+            seven,
+            b"d",
+            b"mark_row",
+            b"group 1 0 e7\ngroup 0 0 d7\ngroup 1 1 d-\n",
+            3,
+        ),
+        (
+            seven,
+            b"d",
+            b"load_hazard",
+            b"group 1 0 e7\ngroup 0 0 d7\ngroup 1 1 d-\n",
+            3,
+        ),
+        (
+            seven,
+            b"d",
+            b"mark_free",
+            b"group 1 0 e7\ngroup 0 0 d7\ngroup 1 1 d-\n",
+            3,
         ),
         (b"", b"e5 e6 d", b"store_chain", b"group 1 0 d-\n", 1),
         (b"", b"e5 e6 d", b"load_hazard", b"group 1 0 d-\n", 1),
@@ -122,10 +147,11 @@ fn caller_stops_before_each_kind_while_another_finishes(rt: HostRuntime) -> Resu
     Ok(())
 }
 
-/// A schedule of 500,000 dequeues of an empty lane, each of which loads the head and a link.
+/// A schedule of 200,000 dequeues of an empty lane, each of which loads the head, stores its hazard, loads the head again
+/// and a link, and clears the hazard.
 fn million_steps(alloc: Global) -> Result<Vec<u8>, AllocError> {
     let mut text = Vec::from_slice(alloc, b"bqplay 1\nshape 1 1 1 1000000 0\n")?;
-    for _ in 0..500_000 {
+    for _ in 0..200_000 {
         text.extend_from_slice(b"start 0 d\nfinish 0\n")?;
     }
     Ok(text)
@@ -137,10 +163,10 @@ fn most_steps_are_a_million(rt: HostRuntime) -> Result<(), Fail> {
     let table: [(&[u8], Option<u32>); 6] = [
         (b"", None),
         (b"start 0 d\nstep 0 0\nuntil 0 load_head\n", None),
-        (b"start 0 d\nfinish 0\n", Some(1_000_004)),
-        (b"start 0 d\nstep 0 1\n", Some(1_000_004)),
-        (b"start 0 d\n\nuntil 0 load_link\n", Some(1_000_005)),
-        (b"start 0 d\nfinish 0\nfinish x\n", Some(1_000_004)),
+        (b"start 0 d\nfinish 0\n", Some(400_004)),
+        (b"start 0 d\nstep 0 1\n", Some(400_004)),
+        (b"start 0 d\n\nuntil 0 load_link\n", Some(400_005)),
+        (b"start 0 d\nfinish 0\nfinish x\n", Some(400_004)),
     ];
     for (last, wanted) in table {
         let mut schedule = full.clone()?;

@@ -1,24 +1,18 @@
 -- A schedule with one more event.
-use Rattle.std.proofs.Common.{◌≡◌, ℕ, zero, suc, ◌+◌, ◌-◌, ◌<◌, ◌≤◌, Bool, true, false, ◌||◌, ◌==◌, List, [], ◌∷◌, ◌++◌, length, Ok, Err, refl, sym, ap, subst, ◌∙◌, arith, append_assoc, append-nil, count_by, ne_eqb, cond, nat_lt, ltb-true, ltb-false, Option, None, Some, is_none, is_some}
+use Rattle.std.proofs.Common.{◌≡◌, ℕ, zero, suc, ◌+◌, ◌-◌, ◌<◌, ◌≤◌, Bool, true, false, ◌||◌, ◌==◌, List, [], ◌∷◌, ◌++◌, Ok, Err, refl, sym, ap, subst, ◌∙◌, arith, append_assoc, append-nil, count_by, ne_eqb, cond, nat_lt, ltb-true, ltb-false}
 use Rattle.std.proofs.lemmas.List.Sums.{sum_by_push}
-use Rattle.std.proofs.lemmas.Bool.{false_from_ne_true, eq-eqb}
-use Rattle.bq_model.specs.declared.error.Refusal.TheVariants.{Full}
+use Rattle.std.proofs.lemmas.Bool.{eq-eqb}
 use Rattle.bq_model.specs.declared.fault.TextCause.{TextCause}
 use Rattle.bq_model.specs.declared.fault.TextCause.TheVariants.{TooMany}
 use Rattle.bq_model.specs.declared.op.Op.{Op}
-use Rattle.bq_model.specs.History.{operations}
-use Rattle.core_model.specs.declared.kind.StepKind.{StepKind}
-use Rattle.core_model.specs.Kind.{kind_of}
-use Rattle.core_model.specs.LaneSizes.{lane_sizes}
-use Rattle.core_model.specs.Start.{start, PassesAllowance}
 use Rattle.text_lines.proofs.ReadingLemmas.{if_ok}
 use Rattle.bq_model.specs.declared.shape.Shape.{Shape}
-use Rattle.core_model.specs.State.{State}
+use Rattle.lane_steps.specs.State.{State}
 use Rattle.step_core.specs.declared.schedule.Event.{Event}
 use Rattle.step_core.specs.declared.schedule.Event.TheVariants as event
 use Rattle.step_core.specs.Schedule.{after_event}
 use Rattle.trace_text.specs.declared.play.Refused.{Refused}
-use Rattle.trace_text.specs.Played.{Playing, after_events, opened, refusal, refusals_from, is_step, steps_of, is_idle, happened, stepped, stops, walk, ran, most_steps}
+use Rattle.trace_text.specs.Played.{Playing, after_events, opened, refusal, refusals_from, is_step, steps_of, happened, stepped, stops, walk, ran, most_steps}
 use Rattle.trace_text.specs.PlayState.{IsPlayed}
 
 pub after_events-push : (z : Shape) (s : State) (es : List Event) (e : Event) → after_events z s (es ++ e ∷ []) ≡ after_event z (after_events z s es) e
@@ -42,16 +36,18 @@ count-step es c = sum_by_push step_count es (event.Step c)
 
 module _ (z y : Shape) (s next : State) (es more : List Event) (left : ℕ) (refused : List Refused) (same : y ≡ z) (played : IsPlayed z s es left refused) where
   -- a caller made a step
-  pub IsPlayed-step : (c : ℕ) → 0 < left → next ≡ after_event z s (event.Step c) → more ≡ es ++ event.Step c ∷ [] → IsPlayed y next more (left - 1) refused
-  IsPlayed-step c some after longer =
-      let P : Shape → Type 0 = λ x. IsPlayed x next more (left - 1) refused in
+  pub IsPlayed-step : (c : ℕ) (longer_refused : List Refused) → 0 < left → next ≡ after_event z s (event.Step c) → longer_refused ≡ refused ++ refusal z s (event.Step c) → more ≡ es ++ event.Step c ∷ []
+      → IsPlayed y next more (left - 1) longer_refused
+  IsPlayed-step c longer_refused some after refused_are longer =
+      let P : Shape → Type 0 = λ x. IsPlayed x next more (left - 1) longer_refused in
       let at = opened z in
       let as_many = played.left_is in
       let counted = ap (count_by is_step) longer ∙ count-step es c in
       subst P (sym same) record {
         state = after ∙ (ap (λ x. after_event z x (event.Step c)) played.state ∙ (sym (after_events-push z at es (event.Step c)) ∙ ap (after_events z at) (sym longer)));
         left_is = omega arith;
-        refused_are = played.refused_are ∙ (sym (append-nil (refusals_from z at es)) ∙ (sym (refusals-push z at es (event.Step c)) ∙ ap (refusals_from z at) (sym longer)));
+        refused_are = refused_are
+            ∙ ((λ i. played.refused_are i ++ refusal z (played.state i) (event.Step c)) ∙ (sym (refusals-push z at es (event.Step c)) ∙ ap (refusals_from z at) (sym longer)));
       }
 
   -- a command was started
@@ -130,31 +126,3 @@ stepped-shape p next c is =
     if_ok (nat_lt (steps_of p) most_steps) _ _ next is
     (λ _ happens. (let after : happened p (event.Step c) ≡ next = cc happens in ap (λ (x : Playing). x.shape) (sym after)))
     (λ _ fails. cc fails)
-
--- ---- refusals
-
-is_none-from : (kind : Option StepKind) → is_some kind ≡ false → is_none kind ≡ true
-is_none-from None e = refl
-is_none-from (Some kind) e = cc e
-
-is_none-not : (kind : Option StepKind) → is_some kind ≡ true → is_none kind ≡ false
-is_none-not None e = cc e
-is_none-not (Some kind) e = refl
-
-module _ (z : Shape) (s after : State) (c : ℕ) (ops : List Op) (allowed : ¬ PassesAllowance (lane_sizes z) (s.callers c) (length ops)) (starts : after ≡ start (lane_sizes z) s c ops) where
-  not_spent : nat_lt z.allowance (length (operations (s.callers c).mine) + length ops) ≡ false
-  not_spent = false_from_ne_true _ (λ passes. allowed (ltb-true z.allowance (length (operations (s.callers c).mine) + length ops) passes))
-
-  -- a command that found no row or no announcement left
-  pub refusal-full : (kind : Option StepKind) → kind ≡ kind_of (after.callers c).point → is_some kind ≡ false → record { caller = c; reason = Full } ∷ [] ≡ refusal z s (event.Start c ops)
-  refusal-full kind kind_is none =
-      let here : is_idle (start (lane_sizes z) s c ops) c ≡ true = ap (λ x. is_idle x c) (sym starts) ∙ (ap is_none (sym kind_is) ∙ is_none-from kind none) in
-      let spent = not_spent in
-      rw (spent, here) refl
-
-  -- a command that runs
-  pub refusal-none : (kind : Option StepKind) → kind ≡ kind_of (after.callers c).point → is_some kind ≡ true → [] ≡ refusal z s (event.Start c ops)
-  refusal-none kind kind_is some =
-      let here : is_idle (start (lane_sizes z) s c ops) c ≡ false = ap (λ x. is_idle x c) (sym starts) ∙ (ap is_none (sym kind_is) ∙ is_none-not kind some) in
-      let spent = not_spent in
-      rw (spent, here) refl

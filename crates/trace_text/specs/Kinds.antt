@@ -1,7 +1,7 @@
 -- The words for the kinds of step.
 use Rattle.std.specs.Prelude.{ℕ, Bool, ◌||◌, List, codes, bytes_eq}
-use Rattle.core_model.specs.declared.kind.StepKind.{StepKind}
-use Rattle.core_model.specs.declared.kind.StepKind.TheVariants as kind
+use Rattle.lane_steps.specs.declared.kind.StepKind.{StepKind}
+use Rattle.lane_steps.specs.declared.kind.StepKind.TheVariants as kind
 
 abbrev pub kind_name : StepKind → List ℕ
 kind_name kind.LoadHead = codes "load_head"
@@ -24,7 +24,13 @@ kind_name kind.MoveHeadMany = codes "move_head_many"
 kind_name kind.LinkStopper = codes "link_stopper"
 kind_name kind.Decide = codes "decide"
 kind_name kind.StoreAnnHazard = codes "store_ann_hazard"
+kind_name kind.StoreNodeHazard = codes "store_node_hazard"
 kind_name kind.LoadHazard = codes "load_hazard"
+kind_name kind.LoadMark = codes "load_mark"
+kind_name kind.ClearMark = codes "clear_mark"
+kind_name kind.ClearLink = codes "clear_link"
+kind_name kind.MarkRow = codes "mark_row"
+kind_name kind.MarkFree = codes "mark_free"
 
 -- whether a word is one of the kinds of plain calls
 abbrev pub is_plain_kind : List ℕ → Bool
@@ -44,8 +50,14 @@ is_alone_kind word = bytes_eq word (codes "move_head_many") || bytes_eq word (co
 
 -- whether a word is one of those on the words that name what a caller holds
 abbrev pub is_hazard_kind : List ℕ → Bool
-is_hazard_kind word = bytes_eq word (codes "store_ann_hazard") || bytes_eq word (codes "load_hazard")
+is_hazard_kind word = bytes_eq word (codes "store_ann_hazard") || bytes_eq word (codes "store_node_hazard") || bytes_eq word (codes "load_hazard")
+
+-- whether a word is one of those on the link and the marks of a row that is used again
+abbrev pub is_row_kind : List ℕ → Bool
+is_row_kind word =
+    bytes_eq word (codes "load_mark") || bytes_eq word (codes "clear_mark") || bytes_eq word (codes "clear_link") || bytes_eq word (codes "mark_row")
+    || bytes_eq word (codes "mark_free")
 
 -- whether a word is a kind
 abbrev pub is_kind : List ℕ → Bool
-is_kind word = is_plain_kind word || is_batch_kind word || is_alone_kind word || is_hazard_kind word
+is_kind word = is_plain_kind word || is_batch_kind word || is_alone_kind word || is_hazard_kind word || is_row_kind word

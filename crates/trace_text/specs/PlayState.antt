@@ -1,7 +1,7 @@
 -- A machine that is played.
 use Rattle.std.specs.Prelude.{◌≡◌, ℕ, ◌+◌, List, count_by}
 use Rattle.bq_model.specs.declared.shape.Shape.{Shape}
-use Rattle.core_model.specs.State.{State}
+use Rattle.lane_steps.specs.State.{State}
 use Rattle.step_core.specs.declared.schedule.Event.{Event}
 use Rattle.trace_text.specs.declared.play.Refused.{Refused}
 use Rattle.trace_text.specs.Played.{after_events, opened, refusals_from, is_step, most_steps}

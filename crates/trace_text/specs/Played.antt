@@ -1,16 +1,19 @@
 -- The events of a schedule, and what becomes of a machine by them.
-use Rattle.std.specs.Prelude.{ℕ, zero, suc, ◌+◌, ◌-◌, Bool, true, false, ◌||◌, ◌==◌, nat_lt, if◌then◌else◌, List, [], ◌∷◌, ◌++◌, length, count_by, Option, None, Some, Result, Ok, Err, bytes_eq, is_none}
+use Rattle.std.specs.Prelude.{ℕ, zero, suc, ◌+◌, ◌-◌, Bool, true, false, ◌&&◌, ◌||◌, ◌==◌, nat_lt, if◌then◌else◌, List, [], ◌∷◌, ◌++◌, length, count_by, Option, None, Some, Result, Ok, Err, bytes_eq, is_none}
 use Rattle.bq_model.specs.declared.error.Refusal.TheVariants.{Spent, Full}
 use Rattle.bq_model.specs.declared.fault.TextCause.{TextCause}
 use Rattle.bq_model.specs.declared.fault.TextCause.TheVariants.{BusyCaller, BlockTooLong, TooMany}
 use Rattle.bq_model.specs.declared.op.Op.{Op}
 use Rattle.bq_model.specs.declared.shape.Shape.{Shape}
 use Rattle.bq_model.specs.History.{operations}
-use Rattle.core_model.specs.declared.kind.StepKind.{StepKind}
-use Rattle.core_model.specs.Kind.{kind_of}
-use Rattle.core_model.specs.LaneSizes.{lane_sizes}
-use Rattle.core_model.specs.Start.{start, opening}
-use Rattle.core_model.specs.State.{State}
+use Rattle.lane_steps.specs.declared.kind.StepKind.{StepKind}
+use Rattle.lane_steps.specs.declared.point.CallEnd.{CallEnd}
+use Rattle.lane_steps.specs.declared.point.CallEnd.TheVariants as outcome
+use Rattle.lane_steps.specs.Kind.{kind_of}
+use Rattle.lane_steps.specs.LaneSizes.{lane_sizes}
+use Rattle.lane_steps.specs.Start.{opening}
+use Rattle.lane_steps.specs.State.{State}
+use Rattle.lane_steps.specs.Step.{next}
 use Rattle.step_core.specs.declared.schedule.Event.{Event}
 use Rattle.step_core.specs.declared.schedule.Event.TheVariants as event
 use Rattle.step_core.specs.Schedule.{after_event}
@@ -41,13 +44,21 @@ state_of p = after_events p.shape (opened p.shape) p.events
 abbrev pub is_idle : State → ℕ → Bool
 is_idle s c = is_none (kind_of (s.callers c).point)
 
--- the refusal of a command that would pass the allowance, or that finds no row or no announcement left
+-- whether a command ended with Full
+abbrev pub was_full : Option CallEnd → Bool
+was_full None = false
+was_full (Some outcome.Done) = false
+was_full (Some outcome.Full) = true
+
+-- whether caller c is idle and its last command ended with Full
+abbrev pub ended_full : State → ℕ → Bool
+ended_full s c = is_idle s c && was_full (s.callers c).outcome
+
+-- The refusal of a command that would pass the allowance, at its start, or of one that finds no free row, at its last step.
+-- A step is of a caller that isn't idle.
 abbrev pub refusal : Shape → State → Event → List Refused
-refusal z s (event.Start c ops) =
-    if nat_lt z.allowance (length (operations (s.callers c).mine) + length ops) then record { caller = c; reason = Spent } ∷ []
-    else if is_idle (start (lane_sizes z) s c ops) c then record { caller = c; reason = Full } ∷ []
-    else []
-refusal z s (event.Step c) = []
+refusal z s (event.Start c ops) = if nat_lt z.allowance (length (operations (s.callers c).mine) + length ops) then record { caller = c; reason = Spent } ∷ [] else []
+refusal z s (event.Step c) = if ended_full (next (lane_sizes z) s c) c then record { caller = c; reason = Full } ∷ [] else []
 
 -- the refusals of events, in their order
 abbrev pub refusals_from : Shape → State → List Event → List Refused

@@ -1,6 +1,6 @@
 // The words for the kinds of step.
 ghost use Rattle.std.specs.Prelude.{◌≡◌};
-ghost use Rattle.trace_text.specs.Kinds.{kind_name, is_plain_kind, is_batch_kind, is_alone_kind, is_hazard_kind, is_kind};
+ghost use Rattle.trace_text.specs.Kinds.{kind_name, is_plain_kind, is_batch_kind, is_alone_kind, is_hazard_kind, is_row_kind, is_kind};
 
 use step_core::StepKind;
 
@@ -29,7 +29,13 @@ pub(crate) fn kind_name(kind: StepKind) -> &'static [u8]
         StepKind::LinkStopper => b"link_stopper",
         StepKind::Decide => b"decide",
         StepKind::StoreAnnHazard => b"store_ann_hazard",
+        StepKind::StoreNodeHazard => b"store_node_hazard",
         StepKind::LoadHazard => b"load_hazard",
+        StepKind::LoadMark => b"load_mark",
+        StepKind::ClearMark => b"clear_mark",
+        StepKind::ClearLink => b"clear_link",
+        StepKind::MarkRow => b"mark_row",
+        StepKind::MarkFree => b"mark_free",
     }
 }
 
@@ -37,7 +43,11 @@ pub(crate) fn kind_name(kind: StepKind) -> &'static [u8]
 pub(crate) fn is_kind(word: &[u8]) -> bool
     ensures { result ≡ is_kind word.now }
 {
-    is_plain_kind(word) || is_batch_kind(word) || is_alone_kind(word) || is_hazard_kind(word)
+    is_plain_kind(word)
+        || is_batch_kind(word)
+        || is_alone_kind(word)
+        || is_hazard_kind(word)
+        || is_row_kind(word)
 }
 
 fn is_plain_kind(word: &[u8]) -> bool
@@ -77,5 +87,17 @@ fn is_alone_kind(word: &[u8]) -> bool
 fn is_hazard_kind(word: &[u8]) -> bool
     ensures { result ≡ is_hazard_kind word.now }
 {
-    word == b"store_ann_hazard".as_slice() || word == b"load_hazard".as_slice()
+    word == b"store_ann_hazard".as_slice()
+        || word == b"store_node_hazard".as_slice()
+        || word == b"load_hazard".as_slice()
+}
+
+fn is_row_kind(word: &[u8]) -> bool
+    ensures { result ≡ is_row_kind word.now }
+{
+    word == b"load_mark".as_slice()
+        || word == b"clear_mark".as_slice()
+        || word == b"clear_link".as_slice()
+        || word == b"mark_row".as_slice()
+        || word == b"mark_free".as_slice()
 }

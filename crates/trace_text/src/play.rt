@@ -1,16 +1,17 @@
 // A machine that is played: what was refused, and how many steps may still be made.
-ghost use Rattle.std.specs.Prelude.{◌≡◌, ◌<◌, ◌≤◌, true, false, ◌++◌, [], length, IfOk, OnOk, OnErr};
+ghost use Rattle.std.specs.Prelude.{◌≡◌, ◌≢◌, ◌<◌, ◌≤◌, true, false, ◌++◌, [], length, IfOk, OnOk, OnErr};
 ghost use Rattle.bq_model.specs.Proper.{IsProper};
 ghost use Rattle.text_lines.specs.Refusals.{ReadsLine};
-ghost use Rattle.trace_text.specs.Played.{state_of, refusals_of, refusal, is_idle, begun, stops, stepped, ran};
+ghost use Rattle.trace_text.specs.Played.{state_of, refusals_of, refusal, is_idle, ended_full, begun, stops, stepped, ran};
 ghost use Rattle.trace_text.specs.ScheduleText.{is_startable};
-ghost use Rattle.core_model.specs.declared.point.Point.TheVariants.{Idle};
+ghost use Rattle.lane_steps.specs.declared.point.Point.TheVariants.{Idle};
 ghost use Rattle.step_core.specs.Machine.{caller_at, state_at};
 ghost use Rattle.step_core.specs.Schedule.{after_event};
 ghost use Rattle.step_core.specs.declared.schedule.Event.TheVariants as event;
 
 use crate::kinds::kind_name;
 use bq_model::{Group, Op, Ops, OutOfMemory, Refusal, Shape, TextCause};
+use lane_steps::CallEnd;
 use std::alloc::Global;
 use std::marker::Model;
 use step_core::{Event, Machine, Started, StepKind};
@@ -149,7 +150,7 @@ impl Play {
         if self.events.reserve(1).is_err() {
             return Err(LineRefused::NoMemory);
         }
-        let _: StepKind = self.machine.step(caller);
+        step(&mut self.machine, &mut self.refused, caller)?;
         self.events.push_reserved(Event::Step { caller });
         self.left -= 1;
         Ok(())
@@ -179,14 +180,40 @@ fn start(
             caller,
             reason: Refusal::Spent,
         }),
-        Started::Running => {
-            if machine.next_kind(caller).is_none() {
-                refused.push_reserved(Refused {
-                    caller,
-                    reason: Refusal::Full,
-                });
-            }
-        }
+        Started::Running => {}
     }
     Ok(())
+}
+
+// Makes a step of a caller that is not idle. Where its command ends with Full, it appends that to the refusals.
+fn step(machine: &mut Machine, refused: &mut Vec<Refused>, caller: u32) -> Result<(), OutOfMemory>
+    requires known { caller < machine.old.shape.callers }
+    requires runs { (caller_at machine.old caller).point ≢ Idle }
+    ensures state { OnOk result (state_at machine.new ≡ after_event machine.old.shape (state_at machine.old) (event.Step caller)) }
+    ensures refused { OnOk result (refused.new.items ≡ refused.old.items ++ refusal machine.old.shape (state_at machine.old) (event.Step caller)) }
+    ensures shape { machine.new.shape ≡ machine.old.shape }
+    ensures state_stays { OnErr result (state_at machine.new ≡ state_at machine.old) }
+    ensures refused_stay { OnErr result (refused.new.items ≡ refused.old.items) }
+{
+    refused.reserve(1)?;
+    let _: StepKind = machine.step(caller);
+    if ended_full(machine, caller) {
+        refused.push_reserved(Refused {
+            caller,
+            reason: Refusal::Full,
+        });
+    }
+    Ok(())
+}
+
+// Whether a caller is idle and its last command ended with Full.
+fn ended_full(machine: &Machine, caller: u32) -> bool
+    requires { caller < machine.now.shape.callers }
+    ensures { result ≡ ended_full (state_at machine.now) caller }
+{
+    machine.next_kind(caller).is_none()
+        && match machine.result(caller) {
+            Some(CallEnd::Full) => true,
+            Some(CallEnd::Done) | None => false,
+        }
 }

@@ -1,5 +1,5 @@
-use Rattle.core_model.specs.Step.{target}
-use Rattle.core_model.specs.LaneSizes.{lane_sizes}
+use Rattle.lane_steps.specs.Step.{target}
+use Rattle.lane_steps.specs.LaneSizes.{lane_sizes}
 use Rattle.core_model.proofs.InRange.{is_word, counts_fit, shape_fits}
 use Rattle.core_model.proofs.Finds.{names_rows}
 use Rattle.core_model.proofs.Ends.{tail_fits, head_fits, announced_fits}

@@ -9,7 +9,7 @@ pub returns-clause-ends : goal.returns-clause-ends
 returns-clause-ends c = λ z s who a L. hold_ends z s L who a
 
 pub returns-clause-starts : goal.returns-clause-starts
-returns-clause-starts c = λ z s who d ops. start_leaves z s who d ops
+returns-clause-starts c = λ z s who d ops. (start_leaves z s who d ops).0
 
 pub returns-clause-named : goal.returns-clause-named
 returns-clause-named c = λ z s who a L. names_its_hold z s L who a

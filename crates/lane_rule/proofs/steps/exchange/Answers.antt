@@ -1,4 +1,4 @@
-use Rattle.core_model.specs.declared.act.Act.TheVariants.{Exchange}
+use Rattle.lane_steps.specs.declared.act.Act.TheVariants.{Exchange}
 use Rattle.lane_rule.proofs.Seated.{on, is_valid, exchange_owes, old_packs, new_packs, is_read, moved}
 use Rattle.lane_rule.proofs.steps.exchange.Goals as goal
 

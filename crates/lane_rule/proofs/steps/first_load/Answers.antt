@@ -1,4 +1,4 @@
-use Rattle.core_model.specs.declared.act.Act.TheVariants.{Load}
+use Rattle.lane_steps.specs.declared.act.Act.TheVariants.{Load}
 use Rattle.lane_rule.proofs.FirstSteps.{first_on, first_valid, first_load_owes, first_read, first_moved}
 use Rattle.lane_rule.proofs.steps.first_load.Goals as goal
 

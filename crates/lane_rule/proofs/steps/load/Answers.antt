@@ -1,4 +1,4 @@
-use Rattle.core_model.specs.declared.act.Act.TheVariants.{Load}
+use Rattle.lane_steps.specs.declared.act.Act.TheVariants.{Load}
 use Rattle.lane_rule.proofs.Seated.{on, is_valid, load_owes, is_read, moved}
 use Rattle.lane_rule.proofs.steps.load.Goals as goal
 

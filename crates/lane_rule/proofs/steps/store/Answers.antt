@@ -1,4 +1,4 @@
-use Rattle.core_model.specs.declared.act.Act.TheVariants.{Store}
+use Rattle.lane_steps.specs.declared.act.Act.TheVariants.{Store}
 use Rattle.lane_rule.proofs.Seated.{is_valid, store_owes, store_packs}
 use Rattle.lane_rule.proofs.steps.store.Goals as goal
 

@@ -1,5 +1,5 @@
-use Rattle.core_model.specs.LaneSizes.{lane_sizes}
-use Rattle.core_model.specs.Start.{opening}
+use Rattle.lane_steps.specs.LaneSizes.{lane_sizes}
+use Rattle.lane_steps.specs.Start.{opening}
 use Rattle.core_model.proofs.Opens.{opens}
 use Rattle.core_model.proofs.Ends.{ended_done}
 use Rattle.step_core.proofs.Runs.{schedule_lawful}

@@ -1,6 +1,6 @@
 use Rattle.std.proofs.Common.{refl}
-use Rattle.core_model.specs.LaneSizes.{lane_sizes}
-use Rattle.core_model.specs.Start.{opening}
+use Rattle.lane_steps.specs.LaneSizes.{lane_sizes}
+use Rattle.lane_steps.specs.Start.{opening}
 use Rattle.core_model.proofs.Opens.{opens}
 use Rattle.step_core.proofs.Commands.{groups_started}
 use Rattle.step_core.proofs.Runs.{schedule_lawful}

@@ -1,6 +1,6 @@
 use Rattle.std.proofs.Common.{rules, ◌≡◌, ℕ, suc, ◌+◌, Err, drop, sym, ap, ◌∙◌, arith}
 use Rattle.bq_model.specs.declared.shape.Shape.{Shape}
-use Rattle.core_model.specs.State.{State}
+use Rattle.lane_steps.specs.State.{State}
 use Rattle.step_core.specs.declared.schedule.EventCause.{EventCause}
 use Rattle.step_core.specs.Machine.{state_at}
 use Rattle.step_core.specs.Schedule.{cause_of, after_event, schedule}

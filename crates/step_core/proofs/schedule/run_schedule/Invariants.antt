@@ -1,6 +1,6 @@
 use Rattle.std.proofs.Common.{◌≡◌, drop}
-use Rattle.core_model.specs.LaneSizes.{lane_sizes}
-use Rattle.core_model.specs.Start.{opening}
+use Rattle.lane_steps.specs.LaneSizes.{lane_sizes}
+use Rattle.lane_steps.specs.Start.{opening}
 use Rattle.step_core.specs.Machine.{state_at}
 use Rattle.step_core.specs.Schedule.{schedule}
 use Rattle.step_core.proofs.schedule.run_schedule.Given as goal

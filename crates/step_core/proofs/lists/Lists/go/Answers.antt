@@ -1,7 +1,7 @@
 use Rattle.std.proofs.Common.{rules, ℕ, sym, ap, ◌∙◌, subst}
-use Rattle.core_model.specs.Functions.{put}
-use Rattle.core_model.specs.LaneSizes.{lane_sizes}
-use Rattle.core_model.specs.Step.{after}
+use Rattle.lane_steps.specs.Functions.{put}
+use Rattle.lane_steps.specs.LaneSizes.{lane_sizes}
+use Rattle.lane_steps.specs.Step.{after}
 use Rattle.std.proofs.lemmas.List.Elements.{All-set}
 use Rattle.step_core.specs.Calls.{IsReady}
 use Rattle.step_core.specs.Lists.{callers_of}

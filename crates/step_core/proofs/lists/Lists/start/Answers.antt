@@ -1,12 +1,11 @@
-use Rattle.std.proofs.Common.{rules, ◌≡◌, ◌<◌, ◌+◌, ℕ, true, false, sym, ap, subst, ◌∙◌, length, refl, vec_len, List}
+use Rattle.std.proofs.Common.{rules, ◌≡◌, ◌<◌, ◌+◌, ℕ, true, false, sym, ap, subst, ◌∙◌, length, vec_len, List}
 use Rattle.bq_model.specs.declared.op.Op.{Op}
 use Rattle.bq_model.specs.declared.shape.Shape.{Shape}
 use Rattle.bq_model.specs.History.{operations}
-use Rattle.excess_count.specs.declared.counts.Counts.{Counts}
-use Rattle.core_model.specs.Functions.{put}
-use Rattle.core_model.specs.LaneSizes.{lane_sizes}
-use Rattle.core_model.specs.State.{State}
-use Rattle.core_model.specs.Start.{has_rows, started}
+use Rattle.lane_steps.specs.Functions.{put}
+use Rattle.lane_steps.specs.LaneSizes.{lane_sizes}
+use Rattle.lane_steps.specs.State.{State}
+use Rattle.lane_steps.specs.Start.{begun}
 use Rattle.step_core.specs.Lists.{callers_of, state_of}
 use Rattle.step_core.proofs.Callers.{begun_is}
 use Rattle.step_core.proofs.lists.Lists.start.Goals as goal
@@ -23,13 +22,6 @@ begin-requires-clause-left c = λ passes. let same = c.reserve.ensures.same in l
       differ : true ≡ false → ⊥
       differ e = cc e
 
-left_over : (c : goal.After-begin-arg-1) → has_rows (lane_sizes c.args.self.now.shape) (callers_of c.args.self.now.calls.items c.args.caller) c.args.ops.now ≡ true
-left_over c = sym (c.has_rows.ensures c.args.ops.now (ap (λ (x : Counts). x.enqs) c.count-counts.ensures.counts_of_the_batch) refl) ∙ (search rules)
-
-pub begin-requires-clause-rows : goal.begin-requires-clause-rows
-begin-requires-clause-rows c = (λ i. has_rows (lane_sizes (c.reserve.ensures.shape i)) ((c.reserve.ensures.same i).callers c.args.caller) (c.in_ok-own.ensures i)) ∙ left_over c
-
 pub returns-clause-running : goal.returns-clause-running
-returns-clause-running c = λ _. let rows = sym (c.has_rows.ensures c.args.ops.now (ap (λ (x : Counts). x.enqs) c.count-counts.ensures.counts_of_the_batch) refl) ∙ (search rules) in
-    begun_is c.args.self.now c.reserve.new.self c.begin.new.self c.args.caller _ c.args.ops.now c.reserve.ensures.same c.reserve.ensures.shape (search rules) rows c.begin.ensures.memory c.begin.ensures.history_stays
-    (c.begin.ensures.callers ∙ ap (λ (ops : List Op). put (callers_of c.reserve.new.self.calls.items) c.args.caller (started (lane_sizes c.reserve.new.self.shape) (vec_len c.reserve.new.self.history) c.args.caller (callers_of c.reserve.new.self.calls.items c.args.caller) ops)) c.in_ok-own.ensures)
+returns-clause-running c = λ _. begun_is c.args.self.now c.reserve.new.self c.begin.new.self c.args.caller _ c.args.ops.now c.reserve.ensures.same c.reserve.ensures.shape (search rules) c.begin.ensures.memory c.begin.ensures.history_stays
+    (c.begin.ensures.callers ∙ ap (λ (ops : List Op). put (callers_of c.reserve.new.self.calls.items) c.args.caller (begun (lane_sizes c.reserve.new.self.shape) (vec_len c.reserve.new.self.history) c.args.caller (callers_of c.reserve.new.self.calls.items c.args.caller) ops)) c.in_ok-own.ensures)

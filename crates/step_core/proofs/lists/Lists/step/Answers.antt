@@ -5,13 +5,13 @@ use Rattle.std.specs.declared.vec.Vec.{Vec}
 use Rattle.std.specs.declared.alloc.Global.{Global}
 use Rattle.word_rows.specs.Sizes.{rows_of, anns_of}
 use Rattle.bq_model.specs.declared.shape.Shape.{Shape}
-use Rattle.core_model.specs.Functions.{put}
-use Rattle.core_model.specs.LaneSizes.{lane_sizes}
-use Rattle.core_model.specs.Ranges.{IsWord}
-use Rattle.core_model.specs.State.{read, write}
-use Rattle.core_model.specs.declared.act.Act.{Act}
-use Rattle.core_model.specs.Act.{location, effect}
-use Rattle.core_model.specs.Step.{after, linearizes}
+use Rattle.lane_steps.specs.Functions.{put}
+use Rattle.lane_steps.specs.LaneSizes.{lane_sizes}
+use Rattle.lane_steps.specs.Ranges.{IsWord}
+use Rattle.lane_steps.specs.State.{read, write}
+use Rattle.lane_steps.specs.declared.act.Act.{Act}
+use Rattle.lane_steps.specs.Act.{location, effect}
+use Rattle.lane_steps.specs.Step.{after, linearizes}
 use Rattle.step_core.specs.declared.call.Call.{Call}
 use Rattle.step_core.specs.Calls.{IsReady, MayGo}
 use Rattle.step_core.specs.Words.{memory_of, sizes_of, Sizes}
@@ -29,7 +29,11 @@ read-found-requires-clause-links c = let a = c.args.self.now in let sizes = c.re
 
 pub read-found-requires-clause-values : goal.read-found-requires-clause-values
 read-found-requires-clause-values c = let a = c.args.self.now in let sizes = c.requires.sound.sizes in
-    subst (λ (z : Sizes). IsWord z.values z.ann_hazards z.notices c.location-word.result) (sym sizes) (subst (IsWord (rows_of a.shape) a.shape.callers (anns_of a.shape)) (sym (c.location-word.ensures ∙ ap location c.act-act.ensures)) (finds_word a c.requires.sound c.args.caller c.point-point.result c.point-point.ensures))
+    subst (λ (z : Sizes). IsWord z.values z.node_hazards z.notices c.location-word.result) (sym sizes) (subst (IsWord (rows_of a.shape) a.shape.callers (anns_of a.shape)) (sym (c.location-word.ensures ∙ ap location c.act-act.ensures)) (finds_word a c.requires.sound c.args.caller c.point-point.result c.point-point.ensures))
+
+pub read-found-requires-clause-marks : goal.read-found-requires-clause-marks
+read-found-requires-clause-marks c = let a = c.args.self.now in let sizes = c.requires.sound.sizes in
+    subst (λ (z : Sizes). IsWord z.marks z.node_hazards z.notices c.location-word.result) (sym sizes) (subst (IsWord (rows_of a.shape) a.shape.callers (anns_of a.shape)) (sym (c.location-word.ensures ∙ ap location c.act-act.ensures)) (finds_word a c.requires.sound c.args.caller c.point-point.result c.point-point.ensures))
 
 pub write-requires-clause-links : goal.write-requires-clause-links
 write-requires-clause-links c = let a = c.args.self.now in let sizes = c.requires.sound.sizes in
@@ -37,7 +41,11 @@ write-requires-clause-links c = let a = c.args.self.now in let sizes = c.require
 
 pub write-requires-clause-values : goal.write-requires-clause-values
 write-requires-clause-values c = let a = c.args.self.now in let sizes = c.requires.sound.sizes in
-    subst (λ (z : Sizes). IsWord z.values z.ann_hazards z.notices c.location-word.result) (sym sizes) (subst (IsWord (rows_of a.shape) a.shape.callers (anns_of a.shape)) (sym (c.location-word.ensures ∙ ap location c.act-act.ensures)) (finds_word a c.requires.sound c.args.caller c.point-point.result c.point-point.ensures))
+    subst (λ (z : Sizes). IsWord z.values z.node_hazards z.notices c.location-word.result) (sym sizes) (subst (IsWord (rows_of a.shape) a.shape.callers (anns_of a.shape)) (sym (c.location-word.ensures ∙ ap location c.act-act.ensures)) (finds_word a c.requires.sound c.args.caller c.point-point.result c.point-point.ensures))
+
+pub write-requires-clause-marks : goal.write-requires-clause-marks
+write-requires-clause-marks c = let a = c.args.self.now in let sizes = c.requires.sound.sizes in
+    subst (λ (z : Sizes). IsWord z.marks z.node_hazards z.notices c.location-word.result) (sym sizes) (subst (IsWord (rows_of a.shape) a.shape.callers (anns_of a.shape)) (sym (c.location-word.ensures ∙ ap location c.act-act.ensures)) (finds_word a c.requires.sound c.args.caller c.point-point.result c.point-point.ensures))
 
 pub add_group-requires : goal.add_group-requires
 add_group-requires c = record {
@@ -70,3 +78,6 @@ returns-clause-sound c = let a = c.args.self.now in let d = c.add_group.new.self
     ap (λ (v : Vec (List Op) Global). copy_at v.items other) (c.go.ensures.rest.3 ∙ c.add_group.ensures.none_added (λ g. differ (sym g ∙ (ap (linearizes t) found ∙ none))))) where
       differ : true ≡ false → ⊥
       differ e = cc e
+
+pub go-requires-clause-ready : goal.go-requires-clause-ready
+go-requires-clause-ready c = let S = c.requires.sound in subst (λ (p : Shape × Vec Call Global). All (IsReady p.0.batch p.0.callers) p.1.items) (λ i. (sym c.add_group.ensures.shape i, sym c.add_group.ensures.calls_stay i)) S.ready

@@ -1,5 +1,5 @@
 use Rattle.std.proofs.Common.{◌≡◌, Some, subst}
-use Rattle.core_model.specs.declared.point.CallEnd.TheVariants.{Done}
+use Rattle.lane_steps.specs.declared.point.CallEnd.TheVariants.{Done}
 use Rattle.core_model.specs.Kept.{LastDone}
 use Rattle.step_core.specs.Machine.{View, caller_at}
 use Rattle.step_core.proofs.machine.Machine.answers.Goals as goal

@@ -1,5 +1,5 @@
 use Rattle.std.proofs.Common.{subst}
-use Rattle.core_model.specs.LaneSizes.{lane_sizes}
+use Rattle.lane_steps.specs.LaneSizes.{lane_sizes}
 use Rattle.core_model.specs.Lawful.{Lawful}
 use Rattle.step_core.specs.Machine.{View, state_at}
 use Rattle.step_core.proofs.machine.Machine.history.Goals as goal

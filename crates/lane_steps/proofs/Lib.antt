@@ -1,0 +1,3 @@
+-- Lemmas on the definitions of specs/, in files named for their topics.
+pub mod Origins
+pub mod Sorted

@@ -1,0 +1,26 @@
+-- The steps of a lane.
+pub mod Functions
+pub mod LaneSizes
+pub mod Notices
+pub mod Stopper
+pub mod Batches
+pub mod State
+pub mod Act
+pub mod Fact
+pub mod Fits
+pub mod Answers
+pub mod Take
+pub mod Help
+pub mod Enqueue
+pub mod Dequeue
+pub mod Fill
+pub mod Batch
+pub mod Many
+pub mod Answer
+pub mod Guard
+pub mod Close
+pub mod Step
+pub mod Coded
+pub mod Start
+pub mod Kind
+pub mod Ranges

@@ -1,0 +1,2 @@
+-- Which commands took the rows of a caller.
+pub mod Draws
