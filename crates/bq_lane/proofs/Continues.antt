@@ -11,7 +11,7 @@ use Rattle.lane_steps.specs.LaneSizes.{lane_sizes}
 use Rattle.row_stock.specs.Draws.{LacksRows}
 use Rattle.lane_rule.specs.Rule.{Begins}
 use Rattle.bq_lane.specs.declared.scratch.Scratch.{Scratch}
-use Rattle.bq_lane.specs.Running.{Same, GoesTo, HasEnded, EndsTo, Ended}
+use Rattle.bq_lane.specs.Running.{Same, GoesTo, HasEnded, EndsTo, EndsFull, Ended}
 
 begins_on : (a b c : List Group) → Begins a b → Begins b c → Begins a c
 begins_on a b c x y = (x.0 ++ y.0, y.1 ∙ (ap (λ (h : List Group). h ++ y.0) x.1 ∙ append_assoc a x.0 y.0))
@@ -35,7 +35,7 @@ module _ (p q r : Seat ℕ View) where
     ended_then : HasEnded q at r → HasEnded p at r
     ended_then b = record { same = same_on a.same b.same; alone = b.alone; heard = b.heard; idle = b.idle; none_left = b.none_left; agrees = b.agrees; few = b.few; apart = b.apart; knows = b.knows }
 
-    done_then : (xs : List Answer) → EndsTo q q.me.0.kept.ops xs at r → EndsTo p ops xs at r
+    pub done_then : (xs : List Answer) → EndsTo q q.me.0.kept.ops xs at r → EndsTo p ops xs at r
     done_then xs b = record {
       ended = ended_then b.ended;
       mine = b.mine ∙ (λ i. a.mine i ++ record { caller = a.same.caller i; batch = length (a.mine i); ops = (a.ops ∙ sym is) i } ∷ []);
@@ -44,9 +44,12 @@ module _ (p q r : Seat ℕ View) where
       outcome = b.outcome;
     }
 
+    pub full_then : EndsFull q q.me.0.kept.ops at r → EndsFull p ops at r
+    full_then b = record { ended = ended_then b.ended; mine = b.mine ∙ a.mine; lacks = subst (λ (y : Shape × List Group × List Op). LacksRows (lane_sizes y.0) y.1 y.2) (λ i. (a.same.shape i, a.mine i, (a.ops ∙ sym is) i)) b.lacks }
+
     pub ends_then : (xs : List Answer) (b : Bool) → Ended q q.me.0.kept.ops xs at r b → Ended p ops xs at r b
     ends_then xs true e = done_then xs e
-    ends_then xs false e = (record { ended = ended_then e.0.ended; mine = e.0.mine ∙ a.mine; lacks = subst (λ (y : Shape × List Group × List Op). LacksRows (lane_sizes y.0) y.1 y.2) (λ i. (a.same.shape i, a.mine i, (a.ops ∙ sym is) i)) e.0.lacks }, e.1)
+    ends_then xs false e = (full_then e.0, e.1)
 
 pub goes_here : (p : Seat ℕ View) → GoesTo p p
 goes_here p = record { same = record { table = refl; id = refl; slots = refl; caller = refl; shape = refl; later = ([], sym (append-nil p.me.0.seen)) }; ops = refl; mine = refl; started = refl }

@@ -2,6 +2,7 @@
 pub mod Losing
 pub mod Advances
 pub mod Continues
+pub mod Seeks
 pub mod Applies
 pub mod Enqueued
 pub mod Makes

@@ -12,14 +12,15 @@ ghost use Rattle.bq_lane.specs.Scratch.{Reserves, SameRoom, SamePuts};
 
 use crate::next::{Next, follow};
 use crate::scratch::Scratch;
+use crate::seek::seek;
 use bq_model::{Answers, Op, Shape};
 use excess_count::pair;
 use lane_rule::{Command, Token, Words, first_step, step};
-use lane_steps::{Closing, Point};
+use lane_steps::{Closing, Point, TakePoint};
 use std::marker::Brand;
 use std::sync::Wait;
 
-// The next step of the running command.
+// The next step of the running command, or all those of its search for a free row.
 fn advance(
     words: &Words,
     shape: &Shape,
@@ -32,8 +33,15 @@ fn advance(
     ensures next { IsNext words.now.table_id words.now.key shape.now caller scratch.new token.old token.new result }
     ensures same { SamePuts scratch.old scratch.new }
 {
-    let found = step(words, shape, caller, token, point);
-    follow(shape, caller, point, found, scratch)
+    match point {
+        Point::Take(taking, TakePoint::LoadMark { row, left }) => {
+            seek(words, shape, caller, token, taking, row, left, scratch)
+        }
+        _ => {
+            let found = step(words, shape, caller, token, point);
+            follow(shape, caller, point, found, scratch)
+        }
+    }
 }
 
 // The start of a command that begins at this point, with its first step.

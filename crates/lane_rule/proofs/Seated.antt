@@ -26,7 +26,7 @@ use Rattle.lane_rule.specs.declared.view.View.{View}
 use Rattle.lane_steps.specs.Act.{location}
 use Rattle.lane_steps.specs.Fits.{ActFits}
 use Rattle.lane_rule.specs.Rule.{Ruled}
-use Rattle.lane_rule.specs.Goes.{Goes}
+use Rattle.lane_rule.specs.Goes.{Ready, Goes}
 use Rattle.lane_rule.specs.Plays.{found, wrote, IsAt, Moves}
 use Rattle.lane_rule.proofs.Single.{load_allowed, store_allowed, exchange_allowed, join_allowed, read_back}
 
@@ -114,3 +114,19 @@ module _ (id : TableId) (key s : Shape) (c : ℕ) (t : Point) (p : Seat ℕ View
   moved q l n o r f on back is = (f.0, f.1, subst (λ (x : Content). Goes p.me.0 x q.me.0) (same (sym (reads f.2.0 q.me.0 f.2.2 l on n o back f.2.1) ∙ is)) f.2.2, f.2.3) where
     same : Some f.2.0 ≡ Some r → f.2.0 ≡ r
     same e = cc e
+
+-- the same, told of the view's own caller and point
+pub at_own : (id : TableId) (key s : Shape) (c : ℕ) (t : Point) (p : Seat ℕ View) → IsAt id key s c t p → IsAt id key s p.me.0.caller p.me.0.kept.point p
+at_own id key s c t p at = record {
+  table = at.table;
+  size = at.size;
+  shape = at.shape;
+  planned = at.planned;
+  alone = at.alone;
+  caller = refl;
+  point = refl;
+  ready = subst (λ (y : ℕ × Point). Ready key y.0 y.1) (λ i. (sym at.caller i, sym at.point i)) at.ready;
+}
+
+pub acts_own : (id : TableId) (key s : Shape) (c : ℕ) (t : Point) (p : Seat ℕ View) (a : Act) → IsAt id key s c t p → act c t ≡ a → act p.me.0.caller p.me.0.kept.point ≡ a
+acts_own id key s c t p a at is = (λ i. act (at.caller i) (at.point i)) ∙ is

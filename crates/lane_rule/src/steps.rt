@@ -16,17 +16,10 @@ pub type Words = Shared<u64, View, Shape, LaneRule>;
 /// What a caller steps with.
 pub type Token = Seat<u64, View>;
 
-// A load.
-fn load(
-    words: &Words,
-    shape: &Shape,
-    caller: u32,
-    token: &mut Token,
-    point: Point,
-    location: Location,
-) -> Content
-    requires at { IsAt words.now.table_id words.now.key shape.now caller point token.old }
-    requires load { act caller point ≡ Act.Load location }
+/// The next step of the seat's caller, which loads this word. Gives what it found.
+pub fn load(words: &Words, shape: &Shape, token: &mut Token, location: Location) -> Content
+    requires at { IsAt words.now.table_id words.now.key shape.now token.old.me.0.caller token.old.me.0.kept.point token.old }
+    requires load { act token.old.me.0.caller token.old.me.0.kept.point ≡ Act.Load location }
     ensures { Moves token.old result token.new }
 {
     let found = words.load::<Finds>(token, location.index(shape) as usize);
@@ -99,7 +92,7 @@ pub fn step(words: &Words, shape: &Shape, caller: u32, token: &mut Token, point:
     ensures { Moves token.old result token.new }
 {
     match point.act(caller) {
-        Act::Load(location) => load(words, shape, caller, token, point, location),
+        Act::Load(location) => load(words, shape, token, location),
         Act::Store(location, new) => {
             store(words, shape, caller, token, point, location, new);
             new
