@@ -27,7 +27,7 @@ use Rattle.word_rows.specs.Layout.{IsValid}
 use Rattle.bq_model.specs.declared.op.Answer.{Answer}
 use Rattle.lane_rule.specs.declared.view.View.{View}
 use Rattle.lane_rule.specs.Rule.{caller_of}
-use Rattle.lane_rule.specs.Goes.{Ready}
+use Rattle.lane_rule.specs.Goes.{Ready, left_of}
 use Rattle.lane_rule.specs.Plays.{IsIdle, Moves, Starts}
 use Rattle.bq_lane.specs.declared.next.Next.{Next}
 use Rattle.bq_lane.specs.declared.next.Next.TheVariants.{Goes, Ends}
@@ -120,7 +120,7 @@ module _ (id : TableId) (key s : Shape) (c : ℕ) (t : Point) (a : Scratch) (p :
       shape_is = let at = run.stands in m.2.shape ∙ (at.planned ∙ sym at.shape)
 
       -- the command goes on at the point u
-      goes_on : (u : Point) → caller_of q.me.0.kept ≡ record (keeping (caller_of p.me.0.kept) b) { point = u } → Running id key s c u b q × GoesTo p q
+      goes_on : (u : Point) → caller_of q.me.0.kept ≡ record (keeping (caller_of p.me.0.kept) b) { point = u } → Running id key s c u b q × GoesTo p q × (left_of q.me.0 < left_of p.me.0)
       goes_on u e = let g = m.2 in let at = run.stands in let there : q.me.0.kept.point ≡ u = ap (λ (y : Caller). y.point) e in let ops : q.me.0.kept.ops ≡ p.me.0.kept.ops = ap (λ (y : Caller). y.ops) e in (
         record {
           stands = record {
@@ -143,6 +143,7 @@ module _ (id : TableId) (key s : Shape) (c : ℕ) (t : Point) (a : Scratch) (p :
           few = few_then;
         },
         record { same = same; ops = ops; mine = ap (λ (y : Caller). y.mine) e; started = ap (λ (y : Caller). y.started_at) e },
+        g.less (subst (λ (os : List Op). 0 < length os) (sym ops) run.some),
       )
 
       -- the command has ended
@@ -172,7 +173,7 @@ module _ (id : TableId) (key s : Shape) (c : ℕ) (t : Point) (a : Scratch) (p :
       full_so e = record {
         ended = ended_so (ap (λ (y : Caller). y.point) e) (ap (λ (y : Caller). y.ops) e) (e ∙ ap (λ (w : Caller). keeping w b) (sym e));
         mine = ap (λ (y : Caller). y.mine) e;
-        lacks = m.2.full run.some (ap (λ (y : Caller). y.point) e) (ap (λ (y : Caller). y.outcome) e);
+        above = m.2.full run.some (ap (λ (y : Caller). y.point) e) (ap (λ (y : Caller). y.outcome) e);
       }
 
       ends_so : (z : Closing) → caller_of q.me.0.kept ≡ ended (length q.me.0.seen) c (keeping (caller_of p.me.0.kept) b) z → EndsSo p p.me.0.kept.ops b q z

@@ -25,6 +25,7 @@ use Rattle.bq_lane.specs.declared.scratch.Scratch.{Scratch}
 use Rattle.bq_lane.specs.Running.{Running, GoesTo, HasEnded, EndsTo, EndsSo, Ended, IsNext, group_of, begun_seat}
 use Rattle.bq_lane.proofs.Continues.{ends_then}
 use Rattle.bq_lane.specs.Applied.{Rested, Applied, Called}
+use Rattle.bq_lane.proofs.Refusals.{at_moment}
 
 module _ {A : Type 0} where
   last_same : (xs ys : List A) (x y : A) → xs ++ x ∷ [] ≡ ys ++ y ∷ [] → x ≡ y
@@ -88,7 +89,7 @@ module _ (p q : Seat ℕ View) (n : ℕ) (ops : List Op) (xs : List Answer) (a :
 
   pub called : (b : Bool) → Ended (begun_seat p n ops) ops xs a q b → Called p ops xs a q b
   called true e = applied e
-  called false e = (record { rested = rested e.0.ended; same_groups = e.0.mine; lacks = e.0.lacks }, e.1)
+  called false e = (record { rested = rested e.0.ended; same_groups = e.0.mine; passed = at_moment p.me.0.shape p.me.0.caller ops n p.me.0.seen q.me.0.seen e.0.ended.same.later less e.0.above }, e.1)
 
 pub goes_called : (p q r : Seat ℕ View) (n : ℕ) (ops : List Op) (xs : List Answer) (a : Scratch) (b : Bool) → length p.me.0.seen ≤ n → GoesTo (begun_seat p n ops) q → Ended q ops xs a r b → Called p ops xs a r b
 goes_called p q r n ops xs a b less goes e = called p r n ops xs a less b (ends_then (begun_seat p n ops) q r ops a refl goes xs b (subst (λ (ys : List Op). Ended q ys xs a r b) (sym goes.ops) e))
@@ -104,7 +105,7 @@ answered p q ops xs a Full e is = (e, is)
 
 module _ (id : TableId) (key s : Shape) (c : ℕ) (a : Scratch) (p q : Seat ℕ View) (y : Next) (next : IsNext id key s c a p q y) where
   pub as_goes : (t : Point) → y ≡ Goes t → Running id key s c t a q × GoesTo p q
-  as_goes t e = subst (IsNext id key s c a p q) e next
+  as_goes t e = let y = subst (IsNext id key s c a p q) e next in (y.0, y.1)
 
   pub as_ends : (x : Closing) → y ≡ Ends x → EndsSo p p.me.0.kept.ops a q x
   as_ends x e = subst (IsNext id key s c a p q) e next

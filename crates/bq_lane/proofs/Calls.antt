@@ -6,7 +6,7 @@ use Rattle.bq_model.specs.declared.group.Group.{Group}
 use Rattle.bq_model.specs.declared.op.Op.{Op}
 use Rattle.bq_model.specs.declared.op.Answer.{Answer}
 use Rattle.bq_model.specs.declared.shape.Shape.{Shape}
-use Rattle.bq_model.specs.Grows.{the_caller, Grew, SawMore}
+use Rattle.bq_model.specs.Grows.{the_caller, Grew, SawMore, AtSomePoint}
 use Rattle.bq_model.specs.Own.{mine}
 use Rattle.bq_model.specs.Rooms.{PassesAllowance}
 use Rattle.bq_model.specs.Values.{enqueued}
@@ -19,8 +19,7 @@ use Rattle.lane_rule.specs.declared.view.View.{View}
 use Rattle.lane_rule.specs.Plays.{IsIdle}
 use Rattle.bq_lane.specs.Applied.{Applied, Refused}
 use Rattle.bq_lane.specs.declared.scratch.Scratch.{Scratch}
-use Rattle.row_stock.specs.Draws.{LacksRows}
-use Rattle.bq_lane.specs.Rooms.{LacksRoom}
+use Rattle.bq_lane.specs.Rooms.{PassesRoom}
 use Rattle.bq_lane.specs.Pass.{PassState, callers_of, Counted, Rests}
 use Rattle.bq_lane.proofs.Passes.{its, own, spent_is, the_caller_is}
 use Rattle.bq_lane.proofs.Commands.{may_begin}
@@ -60,8 +59,8 @@ module _ (p : Seat ℕ View) (shape : Shape) (caller : ℕ) (batches : ℕ) (ope
         own = ap (mine q.me.0.seen) (sym a.rested.same.caller) ∙ (a.rested.own ∙ (a.same_groups ∙ sym (own p.me shape caller batches operated hand r one_here)));
       })
 
-  -- it lacked room at what its caller has seen now
-  pub lacks_room : (s : Shape) → v.shape ≡ s → (q : Seat ℕ View) (at : Scratch) → Refused p ops at q → LacksRoom s q.me.0.seen (the_caller v.callers) ops
-  lacks_room s same q at a = subst (λ (z : Shape). LacksRoom z q.me.0.seen (the_caller v.callers) ops) same (subst (λ (w : PassState). LacksRoom w.shape q.me.0.seen (the_caller w.callers) ops) view
-      (subst (λ (c : ℕ). LacksRoom shape q.me.0.seen c ops) (the_caller_is p.me shape caller batches operated hand r one_here)
-      (subst (λ (y : Shape × List Group). LacksRows (lane_sizes y.0) y.1 ops) (λ i. (r.planned i, (sym a.same_groups ∙ (sym a.rested.own ∙ ap (mine q.me.0.seen) a.rested.same.caller)) i)) a.lacks)))
+  -- it passed the room at a point of the call
+  pub passed_room : (s : Shape) → v.shape ≡ s → (q : Seat ℕ View) (at : Scratch) → Refused p ops at q → AtSomePoint (λ point. PassesRoom s point (the_caller v.callers) ops) v.seen q.me.0.seen
+  passed_room s same q at a = subst (λ (z : Shape). AtSomePoint (λ point. PassesRoom z point (the_caller v.callers) ops) v.seen q.me.0.seen) same
+      (subst (λ (w : PassState). AtSomePoint (λ point. PassesRoom w.shape point (the_caller w.callers) ops) w.seen q.me.0.seen) view
+      (subst (λ (y : Shape × ℕ). AtSomePoint (λ point. PassesRoom y.0 point y.1 ops) p.me.0.seen q.me.0.seen) (λ i. (r.planned i, the_caller_is p.me shape caller batches operated hand r one_here i)) a.passed))

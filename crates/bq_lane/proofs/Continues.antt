@@ -8,7 +8,7 @@ use Rattle.bq_model.specs.declared.group.Group.{Group}
 use Rattle.lane_rule.specs.declared.view.View.{View}
 use Rattle.bq_model.specs.declared.shape.Shape.{Shape}
 use Rattle.lane_steps.specs.LaneSizes.{lane_sizes}
-use Rattle.row_stock.specs.Draws.{LacksRows}
+use Rattle.lane_room.specs.Search.{IsAbove}
 use Rattle.lane_rule.specs.Rule.{Begins}
 use Rattle.bq_lane.specs.declared.scratch.Scratch.{Scratch}
 use Rattle.bq_lane.specs.Running.{Same, GoesTo, HasEnded, EndsTo, EndsFull, Ended}
@@ -45,7 +45,7 @@ module _ (p q r : Seat ℕ View) where
     }
 
     pub full_then : EndsFull q q.me.0.kept.ops at r → EndsFull p ops at r
-    full_then b = record { ended = ended_then b.ended; mine = b.mine ∙ a.mine; lacks = subst (λ (y : Shape × List Group × List Op). LacksRows (lane_sizes y.0) y.1 y.2) (λ i. (a.same.shape i, a.mine i, (a.ops ∙ sym is) i)) b.lacks }
+    full_then b = record { ended = ended_then b.ended; mine = b.mine ∙ a.mine; above = subst (λ (y : Shape × ℕ × List Op × ℕ). IsAbove y.0 r.me.0.seen y.1 y.2 y.3) (λ i. (a.same.shape i, a.same.caller i, (a.ops ∙ sym is) i, a.started i)) b.above }
 
     pub ends_then : (xs : List Answer) (b : Bool) → Ended q q.me.0.kept.ops xs at r b → Ended p ops xs at r b
     ends_then xs true e = done_then xs e

@@ -1,5 +1,5 @@
 -- The steps of a search for a free row, one after another.
-use Rattle.std.proofs.Common.{◌≡◌, ℕ, zero, suc, Bool, true, false, List, ap, sym, refl, subst}
+use Rattle.std.proofs.Common.{◌≡◌, ◌<◌, ◌≤◌, arith, ℕ, suc, Bool, true, false, List, ap, sym, refl, subst}
 use Rattle.atomic_table.specs.Seated.{TableId}
 use Rattle.atomic_table.specs.declared.shared.Seat.{Seat}
 use Rattle.bq_model.specs.declared.op.Op.{Op}
@@ -24,27 +24,28 @@ use Rattle.bq_lane.specs.Running.{Running, GoesTo, EndsTo, IsNext}
 use Rattle.bq_lane.specs.Scratch.{keeping, SamePuts}
 use Rattle.bq_lane.proofs.Advances.{follows_next}
 use Rattle.bq_lane.proofs.Continues.{goes_then, done_then, full_then}
+use Rattle.lane_rule.specs.Goes.{left_of}
 
 -- nothing at hand has changed
 pub same_puts : (a : Scratch) → SamePuts a a
 same_puts a = record { puts = refl; room = record { puts = refl; rows = refl; values = refl; walked = refl; retired = refl; named = refl } }
 
 -- what comes next of a command that has gone on comes next of what it was
-pub next_then : (id : TableId) (key s : Shape) (c : ℕ) (b : Scratch) (p q r : Seat ℕ View) (y : Next) → GoesTo p q → IsNext id key s c b q r y → IsNext id key s c b p r y
-next_then id key s c b p q r (Goes t) goes next = (next.0, goes_then p q r goes next.1)
-next_then id key s c b p q r (Ends (Plain x)) goes next = done_then p q r p.me.0.kept.ops b refl goes _ next
-next_then id key s c b p q r (Ends (Batch m)) goes next = done_then p q r p.me.0.kept.ops b refl goes (paired p.me.0.kept.ops m b.values.items) (subst (λ (os : List Op). EndsTo q q.me.0.kept.ops (paired os m b.values.items) b r) goes.ops next)
-next_then id key s c b p q r (Ends Full) goes next = full_then p q r p.me.0.kept.ops b refl goes next
+pub next_then : (id : TableId) (key s : Shape) (c : ℕ) (b : Scratch) (p q r : Seat ℕ View) (y : Next) → GoesTo p q → left_of q.me.0 ≤ left_of p.me.0 → IsNext id key s c b q r y → IsNext id key s c b p r y
+next_then id key s c b p q r (Goes t) goes most next = (next.0, goes_then p q r goes next.1, let less = next.2 in omega (arith, most, less))
+next_then id key s c b p q r (Ends (Plain x)) goes most next = done_then p q r p.me.0.kept.ops b refl goes _ next
+next_then id key s c b p q r (Ends (Batch m)) goes most next = done_then p q r p.me.0.kept.ops b refl goes (paired p.me.0.kept.ops m b.values.items) (subst (λ (os : List Op). EndsTo q q.me.0.kept.ops (paired os m b.values.items) b r) goes.ops next)
+next_then id key s c b p q r (Ends Full) goes most next = full_then p q r p.me.0.kept.ops b refl goes next
 
 module _ (id : TableId) (key s : Shape) (c : ℕ) (t : Taking) (r l : ℕ) (a : Scratch) (p : Seat ℕ View) (run : Running id key s c (Take t (LoadMark r l)) a p) (q : Seat ℕ View) (x : Content) (m : Moves p x q) where
   told : (free : Bool) → (mark_in x).free ≡ free → (b : Scratch) (y : Next) → ((n : ℕ) (w : Caller) → Becomes n c w b y (followed (lane_sizes s) n c (keeping w a) (taking.after_mark t r l free))) → SamePuts a b → IsNext id key s c b p q y
   told free is b y becomes same = follows_next id key s c (Take t (LoadMark r l)) a p run q x m b y
       (λ n w _. subst (λ (f : Bool). Becomes n c w b y (followed (lane_sizes s) n c (keeping w a) (taking.after_mark t r l f))) (sym is) (becomes n w)) same
 
-  pub finds_free : (mark_in x).free ≡ true → Running id key s c (Take t (ClearMark r)) a q × GoesTo p q
+  pub finds_free : (mark_in x).free ≡ true → Running id key s c (Take t (ClearMark r)) a q × GoesTo p q × (left_of q.me.0 < left_of p.me.0)
   finds_free is = told true is a (Goes (Take t (ClearMark r))) (λ n w. refl) (same_puts a)
 
-  pub seeks_on : (left : ℕ) → l ≡ suc left → (mark_in x).free ≡ false → Running id key s c (Take t (LoadMark (suc r) left)) a q × GoesTo p q
+  pub seeks_on : (left : ℕ) → l ≡ suc left → (mark_in x).free ≡ false → Running id key s c (Take t (LoadMark (suc r) left)) a q × GoesTo p q × (left_of q.me.0 < left_of p.me.0)
   seeks_on left more is = told false is a (Goes (Take t (LoadMark (suc r) left)))
       (λ n w. ap (λ (k : ℕ). followed (lane_sizes s) n c (keeping w a) (taking.after_mark t r k false)) more) (same_puts a)
 

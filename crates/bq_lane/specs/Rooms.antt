@@ -1,13 +1,11 @@
--- When a lane has no row left for a caller.
-use Rattle.std.specs.Prelude.{ℕ, List}
+-- When a lane has no room for operations of a caller.
+use Rattle.std.specs.Prelude.{ℕ, ◌+◌, ◌<◌, List}
 use Rattle.bq_model.specs.declared.op.Op.{Op}
 use Rattle.bq_model.specs.declared.group.Group.{Group}
 use Rattle.bq_model.specs.declared.shape.Shape.{Shape}
-use Rattle.bq_model.specs.Own.{mine}
-use Rattle.lane_steps.specs.LaneSizes.{lane_sizes}
-use Rattle.row_stock.specs.Draws.{LacksRows}
+use Rattle.bq_model.specs.Own.{own}
+use Rattle.excess_count.specs.Excess.{enqueue_count}
 
--- The enqueues of caller c so far and these are more than its item rows; or these are several dequeues alone, and it has made as
--- many such batches as it has stoppers.
-abbrev pub LacksRoom : Shape → List Group → ℕ → List Op → Type 0
-LacksRoom shape history c ops = LacksRows (lane_sizes shape) (mine history c) ops
+-- there is an enqueue among these, and the own queued items of caller c and the enqueues are more than the room
+abbrev pub PassesRoom : Shape → List Group → ℕ → List Op → Type 0
+PassesRoom shape history c ops = (0 < enqueue_count ops) × (shape.room < own history c + enqueue_count ops)

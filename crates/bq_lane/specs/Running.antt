@@ -19,9 +19,9 @@ use Rattle.lane_rule.specs.declared.view.View.{View}
 use Rattle.lane_rule.specs.declared.view.Kind.TheVariants.{Alone}
 use Rattle.lane_rule.specs.Rule.{caller_of, Begins}
 use Rattle.core_model.specs.Few.{ListsFit, HasFew}
-use Rattle.lane_rule.specs.Goes.{Knows}
+use Rattle.lane_rule.specs.Goes.{Knows, left_of}
 use Rattle.lane_steps.specs.LaneSizes.{lane_sizes}
-use Rattle.row_stock.specs.Draws.{LacksRows}
+use Rattle.lane_room.specs.Search.{IsAbove}
 use Rattle.lane_rule.specs.Begun.{begun}
 use Rattle.lane_rule.specs.Plays.{IsAt}
 use Rattle.bq_lane.specs.declared.next.Next.{Next}
@@ -89,7 +89,7 @@ pub record EndsTo (p : Seat ℕ View) (ops : List Op) (xs : List Answer) (a : Sc
 pub record EndsFull (p : Seat ℕ View) (ops : List Op) (a : Scratch) (q : Seat ℕ View) : Type 0 where
   pub ended : HasEnded p a q
   pub mine : q.me.0.kept.mine ≡ p.me.0.kept.mine
-  pub lacks : LacksRows (lane_sizes p.me.0.shape) p.me.0.kept.mine ops
+  pub above : IsAbove p.me.0.shape q.me.0.seen p.me.0.caller ops p.me.0.kept.started_at
 
 abbrev pub EndsSo : Seat ℕ View → List Op → Scratch → Seat ℕ View → Closing → Type 0
 EndsSo p ops a q (Plain x) = EndsTo p ops (closing_answers ops a.values.items (Plain x)) a q
@@ -101,8 +101,9 @@ abbrev pub Ended : Seat ℕ View → List Op → List Answer → Scratch → Sea
 Ended p ops xs a q true = EndsTo p ops xs a q
 Ended p ops xs a q false = EndsFull p ops a q × (xs ≡ [])
 
+-- what comes next of it: less is left where it goes on
 abbrev pub IsNext : TableId → Shape → Shape → ℕ → Scratch → Seat ℕ View → Seat ℕ View → Next → Type 0
-IsNext id key s c a p q (Goes t) = Running id key s c t a q × GoesTo p q
+IsNext id key s c a p q (Goes t) = Running id key s c t a q × GoesTo p q × (left_of q.me.0 < left_of p.me.0)
 IsNext id key s c a p q (Ends x) = EndsSo p p.me.0.kept.ops a q x
 
 -- the seat as its command of these operations starts, when the history has n groups

@@ -18,7 +18,6 @@ use excess_count::pair;
 use lane_rule::{Command, Token, Words, first_step, step};
 use lane_steps::{Closing, Point, TakePoint};
 use std::marker::Brand;
-use std::sync::Wait;
 
 // The next step of the running command, or all those of its search for a free row.
 fn advance(
@@ -94,9 +93,9 @@ fn answer(closing: Closing, ops: &[Op], values: &[u64], out: &mut Answers) -> bo
     }
 }
 
-// The running command, step by step to its end. Gives whether it was done. It waits for as long as others win.
-fn drive<R: Wait>(
-    rt: &R,
+// The running command, step by step to its end. Gives whether it was done. Each step leaves less of it: the rank of the lane
+// has risen, or fewer steps are left until it ends or begins again.
+fn drive(
     words: &Words,
     shape: &Shape,
     caller: u32,
@@ -114,18 +113,16 @@ fn drive<R: Wait>(
     ensures room { SameRoom scratch.old scratch.new }
 {
     let mut point = first;
-    'steps: for _ in rt.forever() {
+    'steps: loop {
         match advance(words, shape, caller, token, point, scratch) {
             Next::Goes(next) => point = next,
             Next::Ends(closing) => return answer(closing, ops, scratch.values.as_slice(), out),
         }
     }
-    unreachable!()
 }
 
 /// A whole command of an idle caller, which begins at this point. Gives whether it was done.
-pub fn perform<R: Wait>(
-    rt: &R,
+pub fn perform(
     words: &Words,
     shape: &Shape,
     caller: u32,
@@ -148,7 +145,7 @@ pub fn perform<R: Wait>(
     ensures room { SameRoom scratch.old scratch.new }
 {
     match begin::<Brand>(words, shape, caller, token, first, ops, scratch) {
-        Next::Goes(point) => drive(rt, words, shape, caller, token, point, ops, scratch, out),
+        Next::Goes(point) => drive(words, shape, caller, token, point, ops, scratch, out),
         Next::Ends(closing) => answer(closing, ops, scratch.values.as_slice(), out),
     }
 }

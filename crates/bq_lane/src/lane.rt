@@ -6,7 +6,7 @@ ghost use Rattle.bq_model.specs.declared.op.Answer.{Answer};
 ghost use Rattle.bq_model.specs.Proper.{IsProper};
 ghost use Rattle.bq_model.specs.Grows.{the_caller, Grew, SawMore, AtSomePoint};
 ghost use Rattle.bq_model.specs.Rooms.{PassesAllowance};
-ghost use Rattle.bq_lane.specs.Rooms.{LacksRoom};
+ghost use Rattle.bq_lane.specs.Rooms.{PassesRoom};
 
 use crate::drive::perform;
 use crate::make::{make_passes, opening_words};
@@ -19,7 +19,6 @@ use lane_rule::{LaneRule, View};
 use lane_steps::first_point;
 use std::alloc::Global;
 use std::marker::Model;
-use std::sync::Wait;
 
 /// A queue that its callers share without locks, on the words of one table.
 #[derive(Drop)]
@@ -42,13 +41,7 @@ impl Model for BqLane {
 
 impl BqLane {
     // Makes operations of the seat's one caller as one command.
-    fn make_ops<R: Wait>(
-        &self,
-        rt: &R,
-        seated: &mut Seated,
-        ops: &[Op],
-        out: &mut Answers,
-    ) -> Result<(), Refusal>
+    fn make_ops(&self, seated: &mut Seated, ops: &[Op], out: &mut Answers) -> Result<(), Refusal>
         requires of_this_lane { (seated.old.table ≡ self.now.table) × (seated.old.shape ≡ self.now.shape) }
         requires one_caller { length seated.old.callers ≡ 1 }
         requires some_operation { ops.now ≢ [] }
@@ -60,7 +53,7 @@ impl BqLane {
         ensures no_answers_when_refused { OnErr result (out.new.items ≡ []) }
         ensures capacity_stays { out.new.capacity ≡ out.old.capacity }
         ensures spent { IsErrOf result Refusal.Spent ↔ PassesAllowance self.now.shape seated.old.seen (the_caller seated.old.callers) ops.now }
-        ensures full { IsErrOf result Refusal.Full → LacksRoom self.now.shape seated.new.seen (the_caller seated.old.callers) ops.now }
+        ensures full { IsErrOf result Refusal.Full → AtSomePoint (λ point. PassesRoom self.now.shape point (the_caller seated.old.callers) ops.now) seated.old.seen seated.new.seen }
         ensures proper { IsProper self.now.shape.callers seated.new.seen }
         ensures pass_stays { (seated.new.table ≡ seated.old.table) × (seated.new.shape ≡ seated.old.shape) × (seated.new.callers ≡ seated.old.callers) }
     {
@@ -79,7 +72,6 @@ impl BqLane {
             seated.scratch.puts.as_slice(),
         );
         let done = perform(
-            rt,
             &self.table.shared,
             &self.shape,
             seated.caller,
@@ -119,7 +111,7 @@ impl Lane for BqLane {
 
     ghost history = { λ book. book };
 
-    ghost may_fill = { LacksRoom };
+    ghost may_fill = { PassesRoom };
 
     fn make(alloc: Global, shape: &Shape) -> Result<(Self, Vec<Pass>), OutOfMemory> {
         let words = opening_words(alloc, shape)?;
@@ -142,13 +134,7 @@ impl Lane for BqLane {
         pass.seated.made()
     }
 
-    fn apply<R: Wait>(
-        &self,
-        rt: &R,
-        pass: &mut Pass,
-        batch: &Batch,
-        out: &mut Answers,
-    ) -> Result<(), Refusal>
+    fn apply(&self, pass: &mut Pass, batch: &Batch, out: &mut Answers) -> Result<(), Refusal>
         requires of_this_lane { (pass.old.table ≡ self.now.table) × (pass.old.shape ≡ self.now.shape) }
         requires one_caller { length pass.old.callers ≡ 1 }
         requires some_operation { batch.now.items ≢ [] }
@@ -159,31 +145,31 @@ impl Lane for BqLane {
         ensures no_answers_when_refused { OnErr result (out.new.items ≡ []) }
         ensures capacity_stays { out.new.capacity ≡ out.old.capacity }
         ensures spent { IsErrOf result Refusal.Spent ↔ PassesAllowance self.now.shape pass.old.seen (the_caller pass.old.callers) batch.now.items }
-        ensures full { IsErrOf result Refusal.Full → AtSomePoint (λ point. LacksRoom self.now.shape point (the_caller pass.old.callers) batch.now.items) pass.old.seen pass.new.seen }
+        ensures full { IsErrOf result Refusal.Full → AtSomePoint (λ point. PassesRoom self.now.shape point (the_caller pass.old.callers) batch.now.items) pass.old.seen pass.new.seen }
         ensures proper { IsProper self.now.shape.callers pass.new.seen }
         ensures pass_stays { (pass.new.table ≡ pass.old.table) × (pass.new.shape ≡ pass.old.shape) × (pass.new.callers ≡ pass.old.callers) }
 
         // A call that is refused with Spent makes no step.
         ensures spent_changes_nothing { IsErrOf result Refusal.Spent → pass.new ≡ pass.old }
     {
-        self.make_ops(rt, &mut pass.seated, batch.as_slice(), out)
+        self.make_ops(&mut pass.seated, batch.as_slice(), out)
     }
 
-    fn enqueue<R: Wait>(&self, rt: &R, pass: &mut Pass, v: u64) -> Result<(), Refusal>
+    fn enqueue(&self, pass: &mut Pass, v: u64) -> Result<(), Refusal>
         requires of_this_lane { (pass.old.table ≡ self.now.table) × (pass.old.shape ≡ self.now.shape) }
         requires one_caller { length pass.old.callers ≡ 1 }
         ensures ok { OnOk result (Grew (the_caller pass.old.callers) (Op.Enq v ∷ []) (Answer.Done ∷ []) pass.old.seen pass.new.seen) }
         ensures refused { OnErr result (SawMore (the_caller pass.old.callers) pass.old.seen pass.new.seen) }
         ensures spent { IsErrOf result Refusal.Spent ↔ PassesAllowance self.now.shape pass.old.seen (the_caller pass.old.callers) (Op.Enq v ∷ []) }
-        ensures full { IsErrOf result Refusal.Full → AtSomePoint (λ point. LacksRoom self.now.shape point (the_caller pass.old.callers) (Op.Enq v ∷ [])) pass.old.seen pass.new.seen }
+        ensures full { IsErrOf result Refusal.Full → AtSomePoint (λ point. PassesRoom self.now.shape point (the_caller pass.old.callers) (Op.Enq v ∷ [])) pass.old.seen pass.new.seen }
         ensures proper { IsProper self.now.shape.callers pass.new.seen }
         ensures pass_stays { (pass.new.table ≡ pass.old.table) × (pass.new.shape ≡ pass.old.shape) × (pass.new.callers ≡ pass.old.callers) }
         ensures spent_changes_nothing { IsErrOf result Refusal.Spent → pass.new ≡ pass.old }
     {
-        self.make_ops(rt, &mut pass.seated, &[Op::Enq(v)], &mut pass.answer)
+        self.make_ops(&mut pass.seated, &[Op::Enq(v)], &mut pass.answer)
     }
 
-    fn dequeue<R: Wait>(&self, rt: &R, pass: &mut Pass) -> Result<Answer, Refusal>
+    fn dequeue(&self, pass: &mut Pass) -> Result<Answer, Refusal>
         requires of_this_lane { (pass.old.table ≡ self.now.table) × (pass.old.shape ≡ self.now.shape) }
         requires one_caller { length pass.old.callers ≡ 1 }
         ensures ok { IfOk result (λ answer. Grew (the_caller pass.old.callers) (Op.Deq ∷ []) (answer ∷ []) pass.old.seen pass.new.seen) }
@@ -194,7 +180,7 @@ impl Lane for BqLane {
         ensures pass_stays { (pass.new.table ≡ pass.old.table) × (pass.new.shape ≡ pass.old.shape) × (pass.new.callers ≡ pass.old.callers) }
         ensures spent_changes_nothing { IsErrOf result Refusal.Spent → pass.new ≡ pass.old }
     {
-        match self.make_ops(rt, &mut pass.seated, &[Op::Deq], &mut pass.answer) {
+        match self.make_ops(&mut pass.seated, &[Op::Deq], &mut pass.answer) {
             Ok(()) => Ok(pass.answer.get(0)),
             Err(refusal) => Err(refusal),
         }

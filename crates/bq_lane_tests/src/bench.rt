@@ -4,7 +4,6 @@ ghost use Rattle.std.specs.Prelude.{◌≡◌, ◌<◌, ◌≤◌, ◌^◌, leng
 use bq_lane::{BqLane, Pass};
 use bq_model::{Answer, Answers, Batch, Lane, Op, OutOfMemory, Shape};
 use std::alloc::Global;
-use std::sync::Wait;
 
 /// A new lane of one caller, with its pass.
 pub fn alone(alloc: Global, shape: &Shape) -> Result<(BqLane, Pass), OutOfMemory>
@@ -21,8 +20,7 @@ pub fn alone(alloc: Global, shape: &Shape) -> Result<(BqLane, Pass), OutOfMemory
 }
 
 /// The answers to these operations as one batch. None where they are no batch, or are refused.
-pub fn applied<R: Wait>(
-    rt: &R,
+pub fn applied(
     alloc: Global,
     lane: &BqLane,
     pass: &mut Pass,
@@ -43,20 +41,20 @@ pub fn applied<R: Wait>(
     if batch.is_empty() {
         return Ok(None);
     }
-    match lane.apply(rt, pass, &batch, &mut out) {
+    match lane.apply(pass, &batch, &mut out) {
         Ok(()) => Ok(Some(out)),
         Err(_) => Ok(None),
     }
 }
 
 /// Enqueues the values. Whether none was refused.
-pub fn puts<R: Wait>(rt: &R, lane: &BqLane, pass: &mut Pass, values: &[u64]) -> bool
+pub fn puts(lane: &BqLane, pass: &mut Pass, values: &[u64]) -> bool
     requires of_this_lane { (pass.old.table ≡ lane.now.table) × (pass.old.shape ≡ lane.now.shape) }
     requires one_caller { length pass.old.callers ≡ 1 }
     ensures pass_stays { (pass.new.table ≡ pass.old.table) × (pass.new.shape ≡ pass.old.shape) × (pass.new.callers ≡ pass.old.callers) }
 {
     for value in values {
-        if lane.enqueue(rt, pass, *value).is_err() {
+        if lane.enqueue(pass, *value).is_err() {
             return false;
         }
     }
@@ -64,13 +62,13 @@ pub fn puts<R: Wait>(rt: &R, lane: &BqLane, pass: &mut Pass, values: &[u64]) -> 
 }
 
 /// Dequeues as often as there are values. Whether it got these, in order.
-pub fn takes<R: Wait>(rt: &R, lane: &BqLane, pass: &mut Pass, values: &[u64]) -> bool
+pub fn takes(lane: &BqLane, pass: &mut Pass, values: &[u64]) -> bool
     requires of_this_lane { (pass.old.table ≡ lane.now.table) × (pass.old.shape ≡ lane.now.shape) }
     requires one_caller { length pass.old.callers ≡ 1 }
     ensures pass_stays { (pass.new.table ≡ pass.old.table) × (pass.new.shape ≡ pass.old.shape) × (pass.new.callers ≡ pass.old.callers) }
 {
     for value in values {
-        if lane.dequeue(rt, pass) != Ok(Answer::Got(*value)) {
+        if lane.dequeue(pass) != Ok(Answer::Got(*value)) {
             return false;
         }
     }

@@ -1,18 +1,15 @@
 // Callers beside each other on one lane, each in a thread of its own.
 ghost use Rattle.std.specs.Prelude.{◌≡◌, ◌<◌, ◌≤◌, ◌+◌, ◌^◌, length, IfOk};
-ghost use Rattle.std.specs.Thread.{IsSync};
 
 use crate::bench::{applied, take_values};
 use bq_lane::{BqLane, Pass};
 use bq_model::{Answer, Lane, Op, OutOfMemory, Shape};
 use std::alloc::Global;
-use std::sync::Wait;
 use std::test::Fail;
 use std::thread::{Threads, join};
 
 // A caller enqueues a hundred values, from this one on, and then dequeues a hundred times. Gives what it got.
-fn puts_and_takes<R: Wait>(
-    rt: &R,
+fn puts_and_takes(
     alloc: Global,
     lane: &BqLane,
     pass: &mut Pass,
@@ -23,13 +20,13 @@ fn puts_and_takes<R: Wait>(
     requires first { first ≤ 1000 }
 {
     for k in 0..100 {
-        if lane.enqueue(rt, pass, first + k).is_err() {
+        if lane.enqueue(pass, first + k).is_err() {
             return Ok(Vec::new(alloc));
         }
     }
     let mut got = Vec::new(alloc);
     for _ in 0..100 {
-        if let Ok(Answer::Got(value)) = lane.dequeue(rt, pass) {
+        if let Ok(Answer::Got(value)) = lane.dequeue(pass) {
             got.push(value)?;
         }
     }
@@ -37,8 +34,7 @@ fn puts_and_takes<R: Wait>(
 }
 
 // A caller makes two batches of three enqueues and three dequeues, of the values from this one on. Gives what it got.
-fn makes_batches<R: Wait>(
-    rt: &R,
+fn makes_batches(
     alloc: Global,
     lane: &BqLane,
     pass: &mut Pass,
@@ -54,7 +50,7 @@ fn makes_batches<R: Wait>(
         let value = first + 3 * k;
         let (one, two, three) = (Op::Enq(value), Op::Enq(value + 1), Op::Enq(value + 2));
         let ops = [one, Op::Deq, two, three, Op::Deq, Op::Deq];
-        if let Some(answers) = applied(rt, alloc, lane, pass, &ops)? {
+        if let Some(answers) = applied(alloc, lane, pass, &ops)? {
             take_values(&mut got, answers.as_slice())?;
         }
     }
@@ -62,7 +58,7 @@ fn makes_batches<R: Wait>(
 }
 
 // Two callers beside each other, with the batches of the other kind or not. Gives what both got.
-fn both<R: Threads + Wait + Sync>(
+fn both<R: Threads>(
     rt: &R,
     alloc: Global,
     lane: &BqLane,
@@ -77,11 +73,11 @@ fn both<R: Threads + Wait + Sync>(
     let (one, other) = join(
         rt,
         move || -> Result<Vec<u64>, OutOfMemory>
-            requires { IsSync R.row × (first.table ≡ lane.now.table) × (first.shape ≡ lane.now.shape) × (length first.callers ≡ 1) }
-        { puts_and_takes(rt, alloc, lane, &mut first, 0) },
+            requires { (first.table ≡ lane.now.table) × (first.shape ≡ lane.now.shape) × (length first.callers ≡ 1) }
+        { puts_and_takes(alloc, lane, &mut first, 0) },
         move || -> Result<Vec<u64>, OutOfMemory>
-            requires { IsSync R.row × (second.table ≡ lane.now.table) × (second.shape ≡ lane.now.shape) × (length second.callers ≡ 1) }
-        { puts_and_takes(rt, alloc, lane, &mut second, 1000) },
+            requires { (second.table ≡ lane.now.table) × (second.shape ≡ lane.now.shape) × (length second.callers ≡ 1) }
+        { puts_and_takes(alloc, lane, &mut second, 1000) },
     );
     let mut got = one?;
     for value in other? {
@@ -91,11 +87,7 @@ fn both<R: Threads + Wait + Sync>(
 }
 
 // Two callers of a new lane put and take beside each other.
-fn two_beside<R: Threads + Wait + Sync>(
-    rt: &R,
-    alloc: Global,
-    shape: &Shape,
-) -> Result<Vec<u64>, OutOfMemory>
+fn two_beside<R: Threads>(rt: &R, alloc: Global, shape: &Shape) -> Result<Vec<u64>, OutOfMemory>
     requires { shape.now.callers ≡ 2 }
 {
     let (lane, mut passes) = BqLane::make(alloc, shape)?;
@@ -106,7 +98,7 @@ fn two_beside<R: Threads + Wait + Sync>(
 }
 
 // Two callers make batches beside each other. Gives what both got.
-fn both_batches<R: Threads + Wait + Sync>(
+fn both_batches<R: Threads>(
     rt: &R,
     alloc: Global,
     lane: &BqLane,
@@ -122,11 +114,11 @@ fn both_batches<R: Threads + Wait + Sync>(
     let (one, other) = join(
         rt,
         move || -> Result<Vec<u64>, OutOfMemory>
-            requires { IsSync R.row × (first.table ≡ lane.now.table) × (first.shape ≡ lane.now.shape) × (length first.callers ≡ 1) × (8 ≤ lane.now.shape.batch) }
-        { makes_batches(rt, alloc, lane, &mut first, 0) },
+            requires { (first.table ≡ lane.now.table) × (first.shape ≡ lane.now.shape) × (length first.callers ≡ 1) × (8 ≤ lane.now.shape.batch) }
+        { makes_batches(alloc, lane, &mut first, 0) },
         move || -> Result<Vec<u64>, OutOfMemory>
-            requires { IsSync R.row × (second.table ≡ lane.now.table) × (second.shape ≡ lane.now.shape) × (length second.callers ≡ 1) × (8 ≤ lane.now.shape.batch) }
-        { makes_batches(rt, alloc, lane, &mut second, 1000) },
+            requires { (second.table ≡ lane.now.table) × (second.shape ≡ lane.now.shape) × (length second.callers ≡ 1) × (8 ≤ lane.now.shape.batch) }
+        { makes_batches(alloc, lane, &mut second, 1000) },
     );
     let mut got = one?;
     for value in other? {
@@ -136,7 +128,7 @@ fn both_batches<R: Threads + Wait + Sync>(
 }
 
 // Two callers of a new lane make batches beside each other.
-fn two_batches_beside<R: Threads + Wait + Sync>(
+fn two_batches_beside<R: Threads>(
     rt: &R,
     alloc: Global,
     shape: &Shape,

@@ -1,7 +1,7 @@
 //! Tests of the lane without locks, as it runs.
 //!
-//! `bench` makes a lane of one caller and gives it batches, and `worked` has the worked examples. `beside`, `long`
-//! and `small` have callers in threads of their own.
+//! `bench` makes a lane of one caller and gives it batches, and `worked` has the worked examples. `rooms` fills lanes.
+//! `beside`, `long`, `small` and `four` have callers in threads of their own.
 #![tactic(auto)]
 
 #[cfg(test)]
@@ -9,7 +9,11 @@ mod bench;
 #[cfg(test)]
 mod beside;
 #[cfg(test)]
+mod four;
+#[cfg(test)]
 mod long;
+#[cfg(test)]
+mod rooms;
 #[cfg(test)]
 mod small;
 #[cfg(test)]

@@ -6,7 +6,6 @@ use crate::bench::{applied, take_values};
 use bq_lane::{BqLane, Pass};
 use bq_model::{Lane, Op, OutOfMemory, Shape};
 use std::alloc::Global;
-use std::sync::Wait;
 use std::test::Fail;
 use std::thread::{Threads, join};
 
@@ -14,8 +13,7 @@ use std::thread::{Threads, join};
 const BATCHES: u64 = 1000;
 
 // A caller makes its batches: each enqueues the next value, from this one on, and dequeues. Gives what it got.
-fn repeats<R: Wait>(
-    rt: &R,
+fn repeats(
     alloc: Global,
     lane: &BqLane,
     pass: &mut Pass,
@@ -29,7 +27,7 @@ fn repeats<R: Wait>(
     let mut got = Vec::new(alloc);
     for number in 0..BATCHES {
         let ops = [Op::Enq(first + number), Op::Deq];
-        match applied(rt, alloc, lane, pass, &ops)? {
+        match applied(alloc, lane, pass, &ops)? {
             Some(answers) => take_values(&mut got, answers.as_slice())?,
             None => return Ok(got),
         }
@@ -38,7 +36,7 @@ fn repeats<R: Wait>(
 }
 
 // Two callers do so beside each other. Gives what each got.
-fn two_repeat<R: Threads + Wait + Sync>(
+fn two_repeat<R: Threads>(
     rt: &R,
     alloc: Global,
     lane: &BqLane,
@@ -55,17 +53,17 @@ fn two_repeat<R: Threads + Wait + Sync>(
     let (mine, its) = join(
         rt,
         move || -> Result<Vec<u64>, OutOfMemory>
-            requires { IsSync R.row × (one.table ≡ lane.now.table) × (one.shape ≡ lane.now.shape) × (length one.callers ≡ 1) × (8 ≤ lane.now.shape.batch) × (first ≤ 10000) }
-        { repeats(rt, alloc, lane, &mut one, first) },
+            requires { (one.table ≡ lane.now.table) × (one.shape ≡ lane.now.shape) × (length one.callers ≡ 1) × (8 ≤ lane.now.shape.batch) × (first ≤ 10000) }
+        { repeats(alloc, lane, &mut one, first) },
         move || -> Result<Vec<u64>, OutOfMemory>
-            requires { IsSync R.row × (other.table ≡ lane.now.table) × (other.shape ≡ lane.now.shape) × (length other.callers ≡ 1) × (8 ≤ lane.now.shape.batch) × (first ≤ 10000) }
-        { repeats(rt, alloc, lane, &mut other, first + 10000) },
+            requires { (other.table ≡ lane.now.table) × (other.shape ≡ lane.now.shape) × (length other.callers ≡ 1) × (8 ≤ lane.now.shape.batch) × (first ≤ 10000) }
+        { repeats(alloc, lane, &mut other, first + 10000) },
     );
     Ok((mine?, its?))
 }
 
 // Three callers do so beside each other. Gives what each got.
-fn three_repeat<R: Threads + Wait + Sync>(
+fn three_repeat<R: Threads + Sync>(
     rt: &R,
     alloc: Global,
     lane: &BqLane,
@@ -86,15 +84,15 @@ fn three_repeat<R: Threads + Wait + Sync>(
                 × (other.table ≡ lane.now.table) × (other.shape ≡ lane.now.shape) × (length other.callers ≡ 1) × (8 ≤ lane.now.shape.batch) }
         { two_repeat(rt, alloc, lane, one, other, 0) },
         move || -> Result<Vec<u64>, OutOfMemory>
-            requires { IsSync R.row × (third.table ≡ lane.now.table) × (third.shape ≡ lane.now.shape) × (length third.callers ≡ 1) × (8 ≤ lane.now.shape.batch) }
-        { repeats(rt, alloc, lane, &mut third, 20000) },
+            requires { (third.table ≡ lane.now.table) × (third.shape ≡ lane.now.shape) × (length third.callers ≡ 1) × (8 ≤ lane.now.shape.batch) }
+        { repeats(alloc, lane, &mut third, 20000) },
     );
     let (first, second) = both?;
     Ok([first, second, its?])
 }
 
 // Three callers of a new lane do so.
-fn three_beside<R: Threads + Wait + Sync>(
+fn three_beside<R: Threads + Sync>(
     rt: &R,
     alloc: Global,
     shape: &Shape,

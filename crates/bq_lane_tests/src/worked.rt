@@ -6,11 +6,10 @@ use bq_lane::BqLane;
 use bq_model::{Answer, Lane, Op, Refusal, Shape};
 use std::alloc::Global;
 use std::process::Abort;
-use std::sync::Wait;
 use std::test::Fail;
 
 // On a new lane that has these values queued, makes the batch and then takes what is left.
-fn plays<R: Wait + Abort>(
+fn plays<R: Abort>(
     rt: &R,
     alloc: Global,
     queued: &[u64],
@@ -21,11 +20,11 @@ fn plays<R: Wait + Abort>(
     let shape = Shape::new(1, 8, 8, 100, 0).ok_or("no shape")?;
     assert!(rt; shape.callers() == 1 && shape.batch() == 8);
     let (lane, mut pass) = alone(alloc, &shape)?;
-    assert!(rt; puts(rt, &lane, &mut pass, queued));
-    let answers = applied(rt, alloc, &lane, &mut pass, ops)?.ok_or("refused")?;
+    assert!(rt; puts(&lane, &mut pass, queued));
+    let answers = applied(alloc, &lane, &mut pass, ops)?.ok_or("refused")?;
     assert_eq!(rt; answers.as_slice(), wanted, "{queued:?} {ops:?}");
-    assert!(rt; takes(rt, &lane, &mut pass, left), "{queued:?} {ops:?}");
-    assert!(rt; lane.dequeue(rt, &mut pass) == Ok(Answer::Empty));
+    assert!(rt; takes(&lane, &mut pass, left), "{queued:?} {ops:?}");
+    assert!(rt; lane.dequeue(&mut pass) == Ok(Answer::Empty));
     Ok(())
 }
 
@@ -75,15 +74,15 @@ fn rows_are_used_again(rt: HostRuntime) -> Result<(), Fail> {
     assert!(rt; shape.callers() == 1);
     let (lane, mut pass) = alone(rt.alloc(), &shape)?;
     let values = [1, 2, 3, 4, 5];
-    assert!(rt; puts(&rt, &lane, &mut pass, &values));
-    assert!(rt; lane.enqueue(&rt, &mut pass, 6) == Err(Refusal::Full));
-    assert!(rt; takes(&rt, &lane, &mut pass, &values));
+    assert!(rt; puts(&lane, &mut pass, &values));
+    assert!(rt; lane.enqueue(&mut pass, 6) == Err(Refusal::Full));
+    assert!(rt; takes(&lane, &mut pass, &values));
     for _round in 0..50 {
         let values = [6, 7, 8, 9];
-        assert!(rt; puts(&rt, &lane, &mut pass, &values));
-        assert!(rt; lane.enqueue(&rt, &mut pass, 10) == Err(Refusal::Full));
-        assert!(rt; takes(&rt, &lane, &mut pass, &values));
-        assert!(rt; lane.dequeue(&rt, &mut pass) == Ok(Answer::Empty));
+        assert!(rt; puts(&lane, &mut pass, &values));
+        assert!(rt; lane.enqueue(&mut pass, 10) == Err(Refusal::Full));
+        assert!(rt; takes(&lane, &mut pass, &values));
+        assert!(rt; lane.dequeue(&mut pass) == Ok(Answer::Empty));
     }
     assert!(rt; BqLane::made(&pass) == 460);
     Ok(())
@@ -96,13 +95,13 @@ fn refused_batch_gives_its_rows_back(rt: HostRuntime) -> Result<(), Fail> {
     assert!(rt; shape.callers() == 1 && shape.batch() == 8);
     let (lane, mut pass) = alone(rt.alloc(), &shape)?;
     let values = [1, 2, 3, 4, 5, 6, 7, 8, 9, 10];
-    assert!(rt; puts(&rt, &lane, &mut pass, &values));
+    assert!(rt; puts(&lane, &mut pass, &values));
     let three = [Op::Enq(11), Op::Enq(12), Op::Enq(13)];
-    assert!(rt; applied(&rt, rt.alloc(), &lane, &mut pass, &three)?.is_none());
-    assert!(rt; puts(&rt, &lane, &mut pass, &[14, 15]));
-    assert!(rt; lane.enqueue(&rt, &mut pass, 16) == Err(Refusal::Full));
-    assert!(rt; takes(&rt, &lane, &mut pass, &values));
-    assert!(rt; takes(&rt, &lane, &mut pass, &[14, 15]));
-    assert!(rt; lane.dequeue(&rt, &mut pass) == Ok(Answer::Empty));
+    assert!(rt; applied(rt.alloc(), &lane, &mut pass, &three)?.is_none());
+    assert!(rt; puts(&lane, &mut pass, &[14, 15]));
+    assert!(rt; lane.enqueue(&mut pass, 16) == Err(Refusal::Full));
+    assert!(rt; takes(&lane, &mut pass, &values));
+    assert!(rt; takes(&lane, &mut pass, &[14, 15]));
+    assert!(rt; lane.dequeue(&mut pass) == Ok(Answer::Empty));
     Ok(())
 }

@@ -16,9 +16,10 @@ use crate::error::{OutOfMemory, Refusal};
 use crate::op::Answer;
 use crate::shape::Shape;
 use std::alloc::Global;
-use std::sync::Wait;
 
 /// A queue that several callers share.
+///
+/// Each call returns, whatever the other callers do or leave undone: it waits for nobody.
 ///
 /// A caller uses it through a pass, which knows the history as far as its callers have seen it. The histories that
 /// the passes of a lane have seen are beginnings of one history, in which each call stands as one group.
@@ -71,13 +72,7 @@ pub trait Lane: Send + Sync + Drop {
         ensures within_allowance { result ≤ (pass_shape pass.now).allowance };
 
     /// Makes the operations of a batch, as one group, and puts their answers into `out`.
-    fn apply<R: Wait>(
-        &self,
-        rt: &R,
-        pass: &mut Self::Pass,
-        batch: &Batch,
-        out: &mut Answers,
-    ) -> Result<(), Refusal>
+    fn apply(&self, pass: &mut Self::Pass, batch: &Batch, out: &mut Answers) -> Result<(), Refusal>
         requires of_this_lane { (pass_identity pass.old ≡ identity self.now) × (pass_shape pass.old ≡ lane_shape self.now) }
         requires one_caller { length (callers pass.old) ≡ 1 }
         requires some_operation { batch.now.items ≢ [] }
@@ -94,7 +89,7 @@ pub trait Lane: Send + Sync + Drop {
         ensures pass_stays { (pass_identity pass.new ≡ pass_identity pass.old) × (pass_shape pass.new ≡ pass_shape pass.old) × (callers pass.new ≡ callers pass.old) };
 
     /// Appends a value.
-    fn enqueue<R: Wait>(&self, rt: &R, pass: &mut Self::Pass, v: u64) -> Result<(), Refusal>
+    fn enqueue(&self, pass: &mut Self::Pass, v: u64) -> Result<(), Refusal>
         requires of_this_lane { (pass_identity pass.old ≡ identity self.now) × (pass_shape pass.old ≡ lane_shape self.now) }
         requires one_caller { length (callers pass.old) ≡ 1 }
         ensures ok { OnOk result (Grew (the_caller (callers pass.old)) (Op.Enq v ∷ []) (Answer.Done ∷ []) (seen pass.old) (seen pass.new)) }
@@ -106,7 +101,7 @@ pub trait Lane: Send + Sync + Drop {
         ensures pass_stays { (pass_identity pass.new ≡ pass_identity pass.old) × (pass_shape pass.new ≡ pass_shape pass.old) × (callers pass.new ≡ callers pass.old) };
 
     /// Takes the first value, if there is one. It is never refused with Full.
-    fn dequeue<R: Wait>(&self, rt: &R, pass: &mut Self::Pass) -> Result<Answer, Refusal>
+    fn dequeue(&self, pass: &mut Self::Pass) -> Result<Answer, Refusal>
         requires of_this_lane { (pass_identity pass.old ≡ identity self.now) × (pass_shape pass.old ≡ lane_shape self.now) }
         requires one_caller { length (callers pass.old) ≡ 1 }
         ensures ok { IfOk result (λ answer. Grew (the_caller (callers pass.old)) (Op.Deq ∷ []) (answer ∷ []) (seen pass.old) (seen pass.new)) }

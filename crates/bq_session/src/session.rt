@@ -15,9 +15,8 @@ use crate::ticket::Ticket;
 use bq_model::{Answer, Answers, Batch, Lane, Op, OutOfMemory, Refusal};
 use std::alloc::Global;
 use std::marker::Model;
-use std::sync::Wait;
 
-/// What one caller of a lane defers, to make it together.
+/// What one caller of a lane defers, to make it together. Each call returns, whatever the other callers do or leave undone.
 #[derive(Drop)]
 pub struct Session<L: Lane> {
     pass: L::Pass,
@@ -135,12 +134,7 @@ impl<L: Lane> Session<L> {
 
     /// What came of a deferred operation. Where it is pending, all that is pending is made, as one group; where it was
     /// made already, its outcome was kept. Either spends the ticket.
-    pub fn evaluate<R: Wait>(
-        &mut self,
-        rt: &R,
-        lane: &L,
-        ticket: Ticket,
-    ) -> Result<Outcome, EvalFault>
+    pub fn evaluate(&mut self, lane: &L, ticket: Ticket) -> Result<Outcome, EvalFault>
         requires of_this_lane { (L.pass_identity self.old.pass ≡ L.identity lane.now) × (L.pass_shape self.old.pass ≡ L.lane_shape lane.now) }
         requires owned { IsLive self.old.futures ticket }
         ensures makes_what_is_pending { (place : ℕ) → Stands self.old.futures ticket (Pending place) → IfOk result (λ outcome. IsMade ticket place outcome self.old.pending self.old.futures self.new.futures (L.seen self.old.pass) (L.seen self.new.pass)) }
@@ -158,7 +152,7 @@ impl<L: Lane> Session<L> {
         ensures pass_stays { (L.pass_identity self.new.pass ≡ L.pass_identity self.old.pass) × (L.pass_shape self.new.pass ≡ L.pass_shape self.old.pass) × (L.callers self.new.pass ≡ L.callers self.old.pass) }
     {
         if self.is_pending(&ticket) {
-            match self.make_pending(rt, lane) {
+            match self.make_pending(lane) {
                 Ok(()) => {}
                 Err(Refusal::Spent) => return Err(EvalFault::Spent(ticket)),
                 Err(Refusal::Full) => return Err(EvalFault::Full(ticket)),
@@ -177,7 +171,7 @@ impl<L: Lane> Session<L> {
     }
 
     // Makes all that is pending, as one group.
-    fn make_pending<R: Wait>(&mut self, rt: &R, lane: &L) -> Result<(), Refusal>
+    fn make_pending(&mut self, lane: &L) -> Result<(), Refusal>
         requires of_this_lane { (L.pass_identity self.old.pass ≡ L.identity lane.now) × (L.pass_shape self.old.pass ≡ L.lane_shape lane.now) }
         requires some_operation { self.old.pending ≢ [] }
         ensures ok { OnOk result (IsEvaluated self.old.pending self.old.futures self.new.futures (L.seen self.old.pass) (L.seen self.new.pass)) }
@@ -191,7 +185,6 @@ impl<L: Lane> Session<L> {
         ensures pass_stays { (L.pass_identity self.new.pass ≡ L.pass_identity self.old.pass) × (L.pass_shape self.new.pass ≡ L.pass_shape self.old.pass) × (L.callers self.new.pass ≡ L.callers self.old.pass) }
     {
         make_group(
-            rt,
             lane,
             &mut self.pass,
             &self.pending,
@@ -224,7 +217,7 @@ impl<L: Lane> Session<L> {
     }
 
     /// Makes all that is pending and then an enqueue, as one group.
-    pub fn enqueue<R: Wait>(&mut self, rt: &R, lane: &L, v: u64) -> Result<(), PlainFault>
+    pub fn enqueue(&mut self, lane: &L, v: u64) -> Result<(), PlainFault>
         requires of_this_lane { (L.pass_identity self.old.pass ≡ L.identity lane.now) × (L.pass_shape self.old.pass ≡ L.lane_shape lane.now) }
         ensures ok { OnOk result (IsEvaluated (self.old.pending ++ Op.Enq v ∷ []) self.old.futures self.new.futures (L.seen self.old.pass) (L.seen self.new.pass)) }
         ensures nothing_pending { OnOk result (self.new.pending ≡ []) }
@@ -239,12 +232,12 @@ impl<L: Lane> Session<L> {
         ensures keeps { KeepsAnswers (L.seen self.new.pass) self.new.futures }
         ensures pass_stays { (L.pass_identity self.new.pass ≡ L.pass_identity self.old.pass) × (L.pass_shape self.new.pass ≡ L.pass_shape self.old.pass) × (L.callers self.new.pass ≡ L.callers self.old.pass) }
     {
-        self.make_with(rt, lane, Op::Enq(v))?;
+        self.make_with(lane, Op::Enq(v))?;
         Ok(())
     }
 
     /// Makes all that is pending and then a dequeue, as one group.
-    pub fn dequeue<R: Wait>(&mut self, rt: &R, lane: &L) -> Result<Outcome, PlainFault>
+    pub fn dequeue(&mut self, lane: &L) -> Result<Outcome, PlainFault>
         requires of_this_lane { (L.pass_identity self.old.pass ≡ L.identity lane.now) × (L.pass_shape self.old.pass ≡ L.lane_shape lane.now) }
         ensures ok { IfOk result (λ outcome. IsMadeWith outcome Op.Deq self.old.pending self.old.futures self.new.futures (L.seen self.old.pass) (L.seen self.new.pass)) }
         ensures nothing_pending { OnOk result (self.new.pending ≡ []) }
@@ -260,11 +253,11 @@ impl<L: Lane> Session<L> {
         ensures keeps { KeepsAnswers (L.seen self.new.pass) self.new.futures }
         ensures pass_stays { (L.pass_identity self.new.pass ≡ L.pass_identity self.old.pass) × (L.pass_shape self.new.pass ≡ L.pass_shape self.old.pass) × (L.callers self.new.pass ≡ L.callers self.old.pass) }
     {
-        self.make_with(rt, lane, Op::Deq)
+        self.make_with(lane, Op::Deq)
     }
 
     // Makes all that is pending and then this operation, as one group.
-    fn make_with<R: Wait>(&mut self, rt: &R, lane: &L, op: Op) -> Result<Outcome, PlainFault>
+    fn make_with(&mut self, lane: &L, op: Op) -> Result<Outcome, PlainFault>
         requires of_this_lane { (L.pass_identity self.old.pass ≡ L.identity lane.now) × (L.pass_shape self.old.pass ≡ L.lane_shape lane.now) }
         ensures ok { IfOk result (λ outcome. IsMadeWith outcome op self.old.pending self.old.futures self.new.futures (L.seen self.old.pass) (L.seen self.new.pass)) }
         ensures nothing_pending { OnOk result (self.new.pending ≡ []) }
@@ -285,7 +278,6 @@ impl<L: Lane> Session<L> {
         }
         self.pending.push(op);
         let made = make_group(
-            rt,
             lane,
             &mut self.pass,
             &self.pending,
@@ -343,8 +335,7 @@ ghost use Rattle.bq_session.specs.Outcome.{made_by};
 
 // Makes these operations as one group, the first of which belong to the pending futures. It gives the serial of the
 // first of them.
-fn make_group<L: Lane, R: Wait>(
-    rt: &R,
+fn make_group<L: Lane>(
     lane: &L,
     pass: &mut L::Pass,
     ops: &Batch,
@@ -372,7 +363,7 @@ fn make_group<L: Lane, R: Wait>(
     ensures pass_stays { (L.pass_identity pass.new ≡ L.pass_identity pass.old) × (L.pass_shape pass.new ≡ L.pass_shape pass.old) × (L.callers pass.new ≡ L.callers pass.old) }
 {
     let first = L::made(pass);
-    lane.apply(rt, pass, ops, answers)?;
+    lane.apply(pass, ops, answers)?;
     futures.settle(answers.as_slice(), first);
     Ok(first)
 }

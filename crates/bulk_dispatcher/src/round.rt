@@ -75,8 +75,7 @@ fn reply_to<G: Gate>(
 }
 
 // Answers what the tickets have kept, in their order, and tells whether the last operation found nothing.
-fn answer_kept<L: Lane, G: Gate, R: Wait>(
-    rt: &R,
+fn answer_kept<L: Lane, G: Gate>(
     alloc: Global,
     jobs: &JobFile,
     lane: &L,
@@ -100,7 +99,7 @@ fn answer_kept<L: Lane, G: Gate, R: Wait>(
 {
     let mut last = empty;
     while let Some(ticket) = held.pop_front() {
-        match session.evaluate(rt, lane, ticket) {
+        match session.evaluate(lane, ticket) {
             Ok(outcome) => {
                 last = is_empty(&outcome);
                 reply_to(alloc, jobs, outcome, hand, gate, replies)?;
@@ -142,15 +141,13 @@ pub fn make_round<L: Lane, G: Gate, R: Wait>(
         Ok(outcome) => {
             let empty = is_empty(&outcome);
             reply_to(alloc, jobs, outcome, hand, gate, replies)?;
-            let last = answer_kept(
-                rt, alloc, jobs, lane, session, held, empty, hand, gate, replies,
-            )?;
+            let last = answer_kept(alloc, jobs, lane, session, held, empty, hand, gate, replies)?;
             Ok(Some(last))
         }
         Err(ticket) => {
             held.push_front(ticket)?;
             withdraw_all(session, held);
-            spend_all(rt, lane, session, held);
+            spend_all(lane, session, held);
             Ok(None)
         }
     }

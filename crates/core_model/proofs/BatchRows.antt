@@ -112,8 +112,7 @@ module _ (z : LaneSizes) (s : State) (L : Lawful z s) (c : ℕ) where
     pub ann_stored : Each z S c (batching.knows d t) → Lawful z (changed s c memory_ann s.history k')
     ann_stored knows = preserves z s L c memory_ann s.history G k' (λ _. ⊥) (λ _ x. absurd x) storing
         (λ d n. record { linearized = refl; made = refl; drafts = λ x is u. let ne = λ (e : x ≡ a). n (sym is ∙ (ap (owner_of z) e ∙ own)) in (u, notices x ne, olds x ne); hazard = refl; held = refl; row_hazard = refl; row_held = refl; debts = still_debts d })
-        L.marks L.history
-        L.queue
+        L.marks L.history L.queue L.owners
         (record { rows = L.list.rows; item_rows = L.list.item_rows; head = L.list.head; tail = L.list.tail; counts = L.list.counts; links = L.list.links })
         announced_as
         (told_on z s L c memory_ann G (point.Batch d t) (inl call.0.1) (λ x at_head. subst (λ (n : Notice). Told z.home s.memory.value G.path (G.stage x) n (owner_of z x) (s.callers (owner_of z x))) (sym (notices x (other x (L.announced.installed x at_head)))) (L.told x at_head)))

@@ -262,8 +262,7 @@ module _ (z : LaneSizes) (s : State) (L : Lawful z s) (c : ℕ) where
     pub installed : Lawful z (changed s c memory' s.history k')
     installed = preserves z s L c memory' s.history G' k' (λ _. ⊥) (λ _ x. absurd x) installing
         (λ e ne. record { linearized = refl; made = refl; drafts = λ x at u. (stage_else x (λ same. ne (sym at ∙ (ap (owner_of z) same ∙ own))) ∙ u, refl, refl); hazard = refl; held = refl; row_hazard = refl; row_held = refl; debts = still_debts e })
-        L.marks L.history
-        L.queue
+        L.marks L.history L.queue L.owners
         (record { rows = L.list.rows; item_rows = L.list.item_rows; head = headed'; tail = L.list.tail; counts = L.list.counts; links = L.list.links })
         announced' told' pending'
         (let k = (L.callers c).knows in record {

@@ -37,7 +37,7 @@ use Rattle.core_model.proofs.Announces.{links_put}
 use Rattle.excess_count.specs.declared.counts.Counts.{Counts}
 use Rattle.lane_steps.specs.Stopper.{linked_rows, passes}
 use Rattle.core_model.proofs.Decisions as decision
-use Rattle.core_model.proofs.ChainRows.{Linking, G, a, o, ko, own, e, n, enqs, len, stops, rows_marked, some, waits, at_head, bare, P, T, first_is, path', chained', spot', link', got, m, left, cause', G', memory', W, within_got, within_all, excess_is, links_are, passes_some, passes_none, tail_is, row_is, old_path, new_path, old_chained, end_chained, new_chained, own_link, old_spot, end_link, old_link, each_place, listed', headed', tailed', v', length_queue, all_values, queue', counts', rest_is}
+use Rattle.core_model.proofs.ChainRows.{Linking, G, a, o, ko, own, e, n, enqs, len, stops, rows_marked, some, waits, at_head, bare, P, T, first_is, path', chained', spot', link', got, m, left, cause', G', memory', W, within_got, within_all, excess_is, links_are, passes_some, passes_none, tail_is, row_is, old_path, new_path, old_chained, end_chained, new_chained, own_link, old_spot, end_link, old_link, each_place, listed', headed', tailed', v', length_queue, all_values, queue', owners', counts', rest_is}
 use Rattle.core_model.proofs.Excess.{covered}
 
 module _ (K : Linking) where
@@ -187,7 +187,7 @@ module _ (K : Linking) where
   pub rows_linked : Lawful K.z record { memory = memory' K; history = K.s.history ++ own K ∷ []; callers = K.s.callers }
   rows_linked = decision.decision K.z K.s K.L K.h.ann (K.L.ghost.head + K.L.ghost.rest) (len K) (waits K) (path' K) (chained' K) (spot' K) (K.L.ghost.rest + (len K)) (m K) (got K) (stops K) (left K) (cause' K) (link' K) K.s.memory.old_tail (λ _ _. refl) Touch rely
       (λ r t. (sym (ap K.z.home t.2) ∙ (P K).homes t.0 t.1, λ both. true_false (sym (ap (λ (x : Marks). x.passed) (ap K.s.memory.mark t.2 ∙ both)) ∙ ap (λ (x : Marks). x.passed) ((P K).marks t.0 t.1))))
-      refl stopper_last (old_spot K) (rows_marked K) effect (queue' K) list' announced' values' where
+      refl stopper_last (old_spot K) (rows_marked K) effect (queue' K) (owners' K) list' announced' values' where
         stopper_last : 0 < stops K → got K ≡ (G K).rest
         stopper_last more = dite (ℕ_discrete (enqs K) 0) (λ none. (passes_none K none).1) (λ enough. let all = (passes_some K (omega arith)).0 in absurd (omega arith))
 

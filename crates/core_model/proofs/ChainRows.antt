@@ -23,7 +23,8 @@ use Rattle.lane_steps.specs.State.{Memory, Caller, State, own_group}
 use Rattle.lane_steps.specs.Fact.{reads, linked, tail_seen, before_end, too_few}
 use Rattle.core_model.specs.Facts.{Holds}
 use Rattle.core_model.specs.Ghost.{Stage, unused, waiting, decided, is_paid, Ghost, World, positions, joint, Unlinked}
-use Rattle.core_model.specs.Lawful.{shown_queue, head_word, Listed, Headed, Tailed, Told, Pending, Lawful}
+use Rattle.core_model.specs.Lawful.{shown_queue, queue_owners, shown_owners, head_word, Listed, Headed, Tailed, Told, Pending, Lawful}
+use Rattle.core_model.proofs.Owners.{enqueuers, owners_follow}
 use Rattle.core_model.proofs.Puts.{put_here, put_else, run_same}
 use Rattle.core_model.proofs.Groups.{length-operations-push}
 use Rattle.core_model.proofs.Runs.{length-run, run_moved, run_parted, drop-run, then, then_old, then_new, placed, placed_else, placed_here, placed_which}
@@ -340,14 +341,36 @@ module _ (K : Linking) where
       ++ run_moved v' (λ j. s.memory.value (G.chain j)) (suc G.head + G.rest) 0 enqs (λ x below. ap s.memory.value (new_path (suc G.head + G.rest + x) x (omega arith)) ∙ ap (λ (y : ℕ). s.memory.value (G.chain y)) (let f : x ≡ 0 + x = omega arith in f)) i))
 
   -- what is left: behind a stopper nothing
-  left_values : run v' (suc G.head + got) (G.rest + enqs - got) ≡ run v' (suc (G.head + m)) left
-  left_values = dite (ℕ_discrete enqs 0)
-      (λ none. let x = passes_none none in let a = x.0 in let b = x.1 in let l = x.2 in ap (run v' (suc G.head + got)) (let f : G.rest + enqs - got ≡ 0 = omega arith in f) ∙ sym (ap (run v' (suc (G.head + m))) (let f : left ≡ 0 = omega arith in f)))
-      (λ more. let x = passes_some (omega arith) in let a = x.0 in let l = x.1 in λ i. run v' ((let f : suc G.head + got ≡ suc (G.head + m) = omega arith in f) i) ((let f : G.rest + enqs - got ≡ left = omega arith in f) i))
+  left_over : (f : ℕ → ℕ) → run f (suc G.head + got) (G.rest + enqs - got) ≡ run f (suc (G.head + m)) left
+  left_over f = dite (ℕ_discrete enqs 0)
+      (λ none. let x = passes_none none in let a = x.0 in let b = x.1 in let l = x.2 in ap (run f (suc G.head + got)) (let e : G.rest + enqs - got ≡ 0 = omega arith in e) ∙ sym (ap (run f (suc (G.head + m))) (let e : left ≡ 0 = omega arith in e)))
+      (λ more. let x = passes_some (omega arith) in let a = x.0 in let l = x.1 in λ i. run f ((let e : suc G.head + got ≡ suc (G.head + m) = omega arith in e) i) ((let e : G.rest + enqs - got ≡ left = omega arith in e) i))
+
+  values_left : last_queue (s.history ++ own ∷ []) ≡ run v' (suc G.head + got) (G.rest + enqs - got)
+  values_left = last_queue-push s.history own ∙ (queue_from-counted (s.memory.notice a).counts ko.ops (last_queue s.history) G.rest counts_are length_queue
+      ∙ (ap (drop got) all_values ∙ drop-run v' (suc G.head) (G.rest + enqs) got within_got))
 
   pub queue' : last_queue (s.history ++ own ∷ []) ≡ shown_queue s.memory.value G'
-  queue' = last_queue-push s.history own ∙ (queue_from-counted (s.memory.notice a).counts ko.ops (last_queue s.history) G.rest counts_are length_queue
-      ∙ (ap (drop got) all_values ∙ (drop-run v' (suc G.head) (G.rest + enqs) got within_got ∙ left_values)))
+  queue' = values_left ∙ left_over v'
+
+  -- the homes of the rows from the dummy on: the owner has enqueued the values of its own ones
+  abbrev h' : ℕ → ℕ
+  h' i = z.home (path' i)
+
+  all_owners : queue_owners s.history ++ enqueuers o ko.ops ≡ run h' (suc G.head) (G.rest + enqs)
+  all_owners = (λ i. was i ++ new i) ∙ sym (run_parted h' (suc G.head) G.rest enqs) where
+    was : queue_owners s.history ≡ run h' (suc G.head) G.rest
+    was = decision.waiting_owners z s L h.ann (L.ghost.head + L.ghost.rest) len waits ∙ run_same (λ i. z.home (G.path i)) h' (suc G.head) G.rest (λ j above below. ap z.home (sym (old_path j (omega arith))))
+
+    in_chain : (x : ℕ) → x < enqs → x < len
+    in_chain x below = let l = (passes_some (omega arith)).1 in omega arith
+
+    new : enqueuers o ko.ops ≡ run h' (suc G.head + G.rest) enqs
+    new = ap (run (λ _. o) 0) (ap length P.values ∙ length-run (λ i. s.memory.value (G.chain i)) 0 enqs)
+        ∙ run_moved (λ _. o) h' 0 (suc G.head + G.rest) enqs (λ x below. sym (ap z.home (new_path (suc G.head + G.rest + x) x (omega arith)) ∙ P.homes x (in_chain x below)))
+
+  pub owners' : queue_owners (s.history ++ own ∷ []) ≡ shown_owners z.home G'
+  owners' = owners_follow v' h' s.history own (suc G.head) (G.rest + enqs) (suc G.head + got) (G.rest + enqs - got) (omega arith) (let g = within_got in omega arith) values_left all_owners ∙ left_over h'
 
   pub counts' : G.head + (G.rest + len) ≤ length (operations (s.history ++ own ∷ []))
   counts' = let made = L.list.counts in let all = length-operations-push s.history own in let k = ap (λ (y : Counts). y.enqs) T.describes.counts in let parts = count-ops ko.ops in let ops = T.several in

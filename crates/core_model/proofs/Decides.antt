@@ -22,7 +22,8 @@ use Rattle.word_rows.specs.declared.marks.Marks.{Marks}
 use Rattle.core_model.specs.Facts.{Linearized, Effect, Holds}
 use Rattle.core_model.specs.Rows.{Takes, Debts, IsLoose, OwnRows}
 use Rattle.core_model.specs.Ghost.{unused, decided, On, Stage, waiting, Ghost, World, at}
-use Rattle.core_model.specs.Lawful.{Told, Lawful, InOrder, Bound, Standing, Announced, Headed, Pending}
+use Rattle.core_model.specs.Lawful.{queue_owners, Told, Lawful, InOrder, Bound, Standing, Announced, Headed, Pending}
+use Rattle.core_model.proofs.Owners.{owners_leave}
 use Rattle.core_model.proofs.Puts.{put_here, put_else}
 use Rattle.core_model.proofs.Groups.{length-operations-push}
 use Rattle.core_model.proofs.Runs.{take-run, length-run, drop-run}
@@ -184,6 +185,9 @@ module _ (z : LaneSizes) (s : State) (L : Lawful z s) (c : ℕ) (h : Help) (p : 
   queue' = last_queue-push s.history own ∙ (queue_from-counted (s.memory.notice a).counts ko.ops (last_queue s.history) G.rest T.describes.counts length_queue
       ∙ ((λ k. drop (got_now k) (all_values k)) ∙ (drop-run value_at (suc G.head) G.rest many within ∙ ap (λ (j : ℕ). run value_at j (G.rest - many)) (let f : suc G.head + many ≡ suc (G.head + many) = omega arith in f))))
 
+  owners' : queue_owners (s.history ++ own ∷ []) ≡ run (λ j. z.home (G.path j)) (suc (G.head + many)) (G.rest - many)
+  owners' = owners_leave value_at (λ j. z.home (G.path j)) s.history own (suc G.head) G.rest (suc (G.head + many)) (G.rest - many) (omega arith) (let w = within in omega arith) queue' (none_enqueued ko.ops no_enqueue) (decision.waiting_owners z s L h.ann on.position 0 waits)
+
   headed' : Headed z.first s.memory.head G.path G.head G.rest G.ann many (G.rest - many)
   headed' = record { named = L.list.head.named; none = λ no. absurd (some_none (sym at_head ∙ no)); fits = let w = within in omega arith }
 
@@ -276,7 +280,7 @@ module _ (z : LaneSizes) (s : State) (L : Lawful z s) (c : ℕ) (h : Help) (p : 
 
   pub decided_lawful : Lawful z record { memory = record s.memory { old_tail = put s.memory.old_tail h.ann (Some p) }; history = s.history ++ own_group (owner_of z h.ann) (s.callers (owner_of z h.ann)) ∷ []; callers = s.callers }
   decided_lawful = decision.decision z s L h.ann on.position 0 waits L.ghost.path L.ghost.chained L.ghost.spot L.ghost.rest many many 0 (L.ghost.rest - many) L.ghost.cause s.memory.link old' old_else (λ _. ⊥) rely (λ _ x. absurd x)
-      (omega arith) (λ none. absurd (omega arith)) (λ _ _ at. at) (λ _ _ at. inl at) effect queue' list' announced' (none_enqueued ko.ops no_enqueue ∙ ap (run value_at (suc i)) (sym no_enqs))
+      (omega arith) (λ none. absurd (omega arith)) (λ _ _ at. at) (λ _ _ at. inl at) effect queue' owners' list' announced' (none_enqueued ko.ops no_enqueue ∙ ap (run value_at (suc i)) (sym no_enqs))
 
 module _ (z : LaneSizes) (s : State) (L : Lawful z s) (c : ℕ) where
   tail_decided : (h : Help) (p : Place) (x : Option Place) → s.memory.old_tail h.ann ≡ x → (s.callers c).point ≡ point.Help h (help.Decide p) → Lawful z (step_with z s c (point.Help h (help.Decide p)) (OfOldTail x))

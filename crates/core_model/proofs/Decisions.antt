@@ -22,7 +22,7 @@ use Rattle.lane_steps.specs.declared.point.GuardPoint.TheVariants.{StoreHazard, 
 use Rattle.core_model.specs.Facts.{Effect, Holds, Each, AtPoint, Knows, IsOwn}
 use Rattle.core_model.specs.Rows.{Takes, Debts, Loose}
 use Rattle.core_model.specs.Ghost.{unused, decided, positions, Stage, waiting, Ghost, World, at, is_paid}
-use Rattle.core_model.specs.Lawful.{HelpsOwn, Told, OwnGroups, Lawful, shown_queue, InOrder, Bound, Standing, Announced, Pending}
+use Rattle.core_model.specs.Lawful.{HelpsOwn, Told, OwnGroups, Lawful, shown_queue, queue_owners, shown_owners, InOrder, Bound, Standing, Announced, Pending}
 use Rattle.core_model.proofs.Puts.{put_here, put_else, put_all}
 use Rattle.core_model.proofs.Groups.{mine-push_other}
 use Rattle.lane_steps.specs.Help as helping
@@ -148,9 +148,15 @@ module _ (z : LaneSizes) (s : State) (L : Lawful z s) (a i n : ℕ) (waits : L.g
   not_a : (x j : ℕ) → g.stage x ≡ decided j → x ≢ a
   not_a x j d same = waits_decides waits (ap g.stage (sym same) ∙ d)
 
-  -- the queue is all rows behind the dummy
+  -- all rows behind the dummy lie behind the shown head, and are the queue
+  all_shown : (f : ℕ → ℕ) → run f (suc (L.ghost.head + L.ghost.shown)) L.ghost.queued ≡ run f (suc L.ghost.head) L.ghost.rest
+  all_shown f = let none = bare in let fits = L.list.head.fits in λ k. run f (suc ((let e : g.head + g.shown ≡ g.head = omega arith in e) k)) ((let e : g.queued ≡ g.rest = omega arith in e) k)
+
   pub waiting_queue : last_queue s.history ≡ run (λ j. s.memory.value (L.ghost.path j)) (suc L.ghost.head) L.ghost.rest
-  waiting_queue = let none = bare in let fits = L.list.head.fits in L.queue ∙ (λ k. run (λ j. s.memory.value (g.path j)) (suc ((let f : g.head + g.shown ≡ g.head = omega arith in f) k)) ((let f : g.queued ≡ g.rest = omega arith in f) k))
+  waiting_queue = L.queue ∙ all_shown (λ j. s.memory.value (L.ghost.path j))
+
+  pub waiting_owners : queue_owners s.history ≡ run (λ j. z.home (L.ghost.path j)) (suc L.ghost.head) L.ghost.rest
+  waiting_owners = L.owners ∙ all_shown (λ j. z.home (L.ghost.path j))
 
   some_ops : kept_by.ops ≢ []
   some_ops none = let more = told_now.several in let k = ap length none in absurd (omega arith)
@@ -264,16 +270,18 @@ module _ (z : LaneSizes) (s : State) (L : Lawful z s) (a i n : ℕ) (waits : L.g
           → (Takes z (world s L.ghost) (owner_of z a) (s.callers (owner_of z a)).rows × Debts z (world s L.ghost) (owner_of z a) [] [] × Distinct (s.callers (owner_of z a)).rows
           → Effect z decided_world (owner_of z a) a i (s.callers (owner_of z a)).started_at (own_group (owner_of z a) (s.callers (owner_of z a))) (s.callers (owner_of z a)).rows)
           → last_queue (s.history ++ own_group (owner_of z a) (s.callers (owner_of z a)) ∷ []) ≡ shown_queue s.memory.value decided_ghost
+          → queue_owners (s.history ++ own_group (owner_of z a) (s.callers (owner_of z a)) ∷ []) ≡ shown_owners z.home decided_ghost
           → InOrder z decided_memory (s.history ++ own_group (owner_of z a) (s.callers (owner_of z a)) ∷ []) decided_ghost
           → Announced z decided_memory decided_ghost
           → enqueued (s.callers (owner_of z a)).ops ≡ run (λ j. s.memory.value (path' j)) (suc i) (s.memory.notice a).counts.enqs
           → Lawful z record { memory = decided_memory; history = s.history ++ own_group (owner_of z a) (s.callers (owner_of z a)) ∷ []; callers = s.callers }
-      decision Touch rely touches shows last there new_rows effect queue list announced values = record {
+      decision Touch rely touches shows last there new_rows effect queue owners list announced values = record {
         ghost = decided_ghost;
         sizes = L.sizes;
         marks = marked_owed z s L bare owner got stops decided_memory (s.history ++ group ∷ []) decided_ghost (le_refl _) (ap (λ (y : ℕ). g.head + y) shows) last new_rows;
         history = joins_proper z s L owner waiting_rows.not_yet waiting_rows.known some_ops;
         queue = queue;
+        owners = owners;
         list = list;
         announced = announced;
         told = λ x at_x. subst (λ (y : ℕ). Told z.home s.memory.value path' (stage' y) (s.memory.notice y) (owner_of z y) (s.callers (owner_of z y))) (sym (alone x at_x)) told_after;

@@ -2,6 +2,7 @@
 use Rattle.std.proofs.Common.{◌≡◌, ℕ, suc, ◌+◌, ◌<◌, ◌≤◌, Bool, true, false, cond, List, [], ◌∷◌, ◌++◌, length, sym, refl, ap, ◌∙◌, subst, arith, ◌≢◌, eqb, eq-eqb, ◌-◌}
 use Rattle.bq_model.specs.declared.op.Op.TheVariants.{Deq}
 use Rattle.bq_model.specs.declared.op.Answer.TheVariants.{Got, Empty}
+use Rattle.bq_model.specs.Values.{enqueued}
 use Rattle.bq_model.specs.declared.group.Group.{Group}
 use Rattle.bq_model.specs.Replay.{answers_from, queue_from}
 use Rattle.bq_model.specs.History.{last_queue}
@@ -117,7 +118,7 @@ module _ (z : LaneSizes) (s : State) (L : Lawful z s) (c : ℕ) where
   -- HEAD moves by one row
   moved : (p : Place) (n v : ℕ) → AtPoint z (world s L.ghost) c (s.callers c) (point.Dequeue (deq.MoveHead p n v)) → s.memory.head ≡ Node p
       → Lawful z (changed s c (record s.memory { head = Node (behind p n) }) (s.history ++ own_group c (s.callers c) ∷ []) (record (s.callers c) { point = point.Close (Plain (Got v)) (close.MarkRow p false true false); walked = n ∷ [] }))
-  moved p n v f head = head_moved z s L c p n 1 (n ∷ []) (Plain (Got v)) refl (bare f.call).0 (bare f.call).1 op.1 (some_ops f.call) head (omega arith) refl (ap (λ (r : ℕ). r ∷ []) (sym (next.there G.head count).1)) (let l = there.0 in omega arith)
+  moved p n v f head = head_moved z s L c p n 1 (n ∷ []) (Plain (Got v)) refl (bare f.call).0 (bare f.call).1 op.1 (some_ops f.call) (ap enqueued op.0) head (omega arith) refl (ap (λ (r : ℕ). r ∷ []) (sym (next.there G.head count).1)) (let l = there.0 in omega arith)
       (sym (next.there G.head count).1 ∙ ap G.path (let e : suc G.head ≡ G.head + 1 = omega arith in e)) (let l = f.here.1.0 in let cnt = count in omega arith)
       (ap (λ (q : List ℕ). answers_from q (Deq ∷ [])) (sym queue_was) ∙ ap (answers_from (last_queue s.history)) (sym op.0))
       (ap (queue_from (last_queue s.history)) op.0 ∙ (ap (λ (q : List ℕ). queue_from q (Deq ∷ [])) queue_was ∙ ap (λ (j : ℕ). run value_at j (G.rest - 1)) (let e : suc (suc G.head) ≡ suc G.head + 1 = omega arith in e))) where
@@ -152,7 +153,7 @@ module _ (z : LaneSizes) (s : State) (L : Lawful z s) (c : ℕ) where
   -- the queue is empty: the command takes effect and ends
   empty : (p : Place) → s.memory.link p.row ≡ Nil → AtPoint z (world s L.ghost) c (s.callers c) (point.Dequeue (deq.LoadLink p)) → Lawful z (step_with z s c (point.Dequeue (deq.LoadLink p)) (OfLink Nil))
   empty p nil f = subst (λ (m : Memory). Lawful z (changed s c m (s.history ++ own ∷ []) (closes (length (s.history ++ own ∷ [])) c (s.callers c) (Plain Empty)))) (sym (ap (write s.memory (Link p.row)) (ap OfLink (sym nil)) ∙ write_read s.memory (Link p.row)))
-      (found_empty z s L c (Plain Empty) refl (bare f.call).0 (bare f.call).1 op.1 (some_ops f.call) (ap (λ (q : List ℕ). answers_from q (Deq ∷ [])) (sym none) ∙ ap (answers_from (last_queue s.history)) (sym op.0))
+      (found_empty z s L c (Plain Empty) refl (bare f.call).0 (bare f.call).1 op.1 (some_ops f.call) (ap enqueued op.0) (ap (λ (q : List ℕ). answers_from q (Deq ∷ [])) (sym none) ∙ ap (answers_from (last_queue s.history)) (sym op.0))
       (ap (queue_from (last_queue s.history)) op.0 ∙ (ap (λ (q : List ℕ). queue_from q (Deq ∷ [])) none ∙ sym none))) where
         op : Holds z (world s L.ghost) c (is_op (s.callers c).ops (s.callers c).rows Deq)
         op = f.call.1.0

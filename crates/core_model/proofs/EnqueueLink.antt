@@ -2,6 +2,7 @@
 use Rattle.std.proofs.Common.{◌≡◌, ◌≢◌, ◌⊎◌, inl, inr, ℕ, suc, ◌+◌, ◌*◌, ◌<◌, ◌≤◌, Bool, true, false, List, [], ◌∷◌, ◌++◌, sym, refl, ap, ◌∙◌, subst, arith, le_refl, Option, Some, None}
 use mathlib.Core.Logic.{dite}
 use native.Mathlib.Decide.{ℕ_discrete}
+use Rattle.bq_model.specs.declared.op.Op.{Op}
 use Rattle.bq_model.specs.declared.op.Op.TheVariants.{Enq}
 use Rattle.bq_model.specs.declared.group.Group.{Group}
 use Rattle.bq_model.specs.Replay.{answers_from, queue_from}
@@ -25,7 +26,8 @@ use Rattle.lane_steps.specs.Step.{stepped, step_with, step_at}
 use Rattle.core_model.specs.Facts.{Holds, AtPoint, Knows}
 use Rattle.core_model.specs.Rows.{Takes, Loose}
 use Rattle.core_model.specs.Ghost.{paid, is_paid, RetiredBy, at, Ghost, World, positions, joint, Unlinked, LinkAt, On}
-use Rattle.core_model.specs.Lawful.{Marked, shown_queue, head_word, Listed, ItemRows, Headed, Tailed, Announced, IsTold, Waits, Lawful}
+use Rattle.core_model.specs.Lawful.{Marked, shown_queue, queue_owners, shown_owners, head_word, Listed, ItemRows, Headed, Tailed, Announced, IsTold, Waits, Lawful}
+use Rattle.core_model.proofs.Owners.{enqueuers, owners_follow}
 use Rattle.core_model.proofs.Puts.{put_here, put_else, run_last, run_same}
 use Rattle.core_model.proofs.Groups.{mine-push_other}
 use Rattle.core_model.proofs.RowsStable.{debts_stable}
@@ -191,6 +193,15 @@ module _ (z : LaneSizes) (s : State) (L : Lawful z s) (c : ℕ) where
         (sym (ap (λ (i : ℕ). s.memory.value (path' i)) (let fits = L.list.head.fits in let new : suc (G.head + G.shown) + G.queued ≡ n = omega arith in new) ∙ (ap s.memory.value new_path ∙ full.1)))
         ∙ sym (run_last (λ i. s.memory.value (path' i)) (suc (G.head + G.shown)) G.queued))))
 
+    owners' : queue_owners (s.history ++ own ∷ []) ≡ shown_owners z.home G'
+    owners' = owners_follow (λ i. s.memory.value (path' i)) (λ i. z.home (path' i)) s.history own (suc (G.head + G.shown)) (suc G.queued) (suc (G.head + G.shown)) (suc G.queued) (le_refl _) refl queue'
+        (ap (λ (ops : List Op). queue_owners s.history ++ enqueuers c ops) op.0 ∙ ((λ k. owners_before k ++ home_is k ∷ []) ∙ sym (run_last (λ i. z.home (path' i)) (suc (G.head + G.shown)) G.queued))) where
+          owners_before : queue_owners s.history ≡ run (λ i. z.home (path' i)) (suc (G.head + G.shown)) G.queued
+          owners_before = L.owners ∙ run_same (λ i. z.home (G.path i)) (λ i. z.home (path' i)) (suc (G.head + G.shown)) G.queued (λ j from below. let fits = L.list.head.fits in ap z.home (sym (old_path j (omega arith))))
+
+          home_is : c ≡ z.home (path' (suc (G.head + G.shown) + G.queued))
+          home_is = sym (ap (λ (i : ℕ). z.home (path' i)) (let fits = L.list.head.fits in let new : suc (G.head + G.shown) + G.queued ≡ n = omega arith in new) ∙ (ap z.home new_path ∙ o.0.free.at_home))
+
     linked_on : (i r : ℕ) → On (world s G) i r → LinkAt W i r
     linked_on i r on = (
       (λ is. let below = on.inside in absurd (omega arith)),
@@ -282,7 +293,7 @@ module _ (z : LaneSizes) (s : State) (L : Lawful z s) (c : ℕ) where
     pub appended : Lawful z (changed s c memory' (s.history ++ own_group c (s.callers c) ∷ []) k')
     appended = preserves z s L c memory' (s.history ++ own ∷ []) G' k' (λ r. r ≡ x.row) (λ r is. ap z.home is ∙ o.0.free.at_home) rely
         (λ d apart. record { linearized = put_else G.linearized c true d apart; made = mine-push_other s.history own d apart; drafts = drafts_same z (world s G) W refl refl refl d; hazard = refl; held = refl; row_hazard = refl; row_held = refl; debts = debts d })
-        marked' (linearizes_proper z s L c (Enq x.value) off.0 op) queue'
+        marked' (linearizes_proper z s L c (Enq x.value) off.0 op) queue' owners'
         (record {
           rows = listed';
           item_rows = items';

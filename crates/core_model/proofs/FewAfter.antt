@@ -33,7 +33,7 @@ length_inserted x (y ∷ ys) = by (length_inserted x ys) (nat_lt y x) where
   by rest true = ap suc rest
   by rest false = refl
 
-length_rising : (xs : List ℕ) → length (rising xs) ≡ length xs
+pub length_rising : (xs : List ℕ) → length (rising xs) ≡ length xs
 length_rising [] = refl
 length_rising (x ∷ xs) = length_inserted x (rising xs) ∙ ap suc (length_rising xs)
 

@@ -225,7 +225,7 @@ module _ (z : LaneSizes) (s : State) (L : Lawful z s) (c : ℕ) (a : Closing) (r
   row_freed : Lawful z (changed s c memory' s.history k1)
   row_freed = preserves z s L c memory' s.history G' k1 Touch (λ q t. ap z.home t.0 ∙ t.1.at_home) rely
       (λ d ne. record { linearized = refl; made = refl; drafts = drafts_same z (world s G) W refl refl refl d; hazard = refl; held = refl; row_hazard = refl; row_held = refl; debts = others d ne })
-      marked' L.history L.queue
+      marked' L.history L.queue L.owners
       (record { rows = listed'; item_rows = L.list.item_rows; head = L.list.head; tail = L.list.tail; counts = L.list.counts; links = L.list.links })
       L.announced
       (told_plain z s L c memory' G' k1 f.call.0.1 L.told)

@@ -185,6 +185,7 @@ module _ (z : LaneSizes) (s : State) (L : Lawful z s) (c : ℕ) where
       marks = L.marks;
       history = L.history;
       queue = L.queue;
+      owners = L.owners;
       list = L.list;
       announced = let A = L.announced in record {
         inside = A.inside;

@@ -58,13 +58,13 @@ module _ (z : LaneSizes) (s : State) (L : Lawful z s) (c : ℕ) where
     spans : L.ghost.span h.ann ≡ linked_rows h.counts (before_it h q)
     spans = span_is z s L c h q reading old
 
-    some : 0 < L.ghost.span h.ann
+    pub some : 0 < L.ghost.span h.ann
     some = subst (λ (n : ℕ). 0 < n) (sym spans) links
 
     BO : Bound z.first L.ghost.path L.ghost.chained L.ghost.cause (L.ghost.head + L.ghost.rest) L.ghost.tail (s.memory.notice h.ann) h.ann old.position (L.ghost.span h.ann)
     BO = L.announced.bound h.ann old.position old.is_decided
 
-    tail_is : L.ghost.tail ≡ old.position
+    pub tail_is : L.ghost.tail ≡ old.position
     tail_is = let e = ap (λ (p : Place). p.count) (sym L.list.tail.named ∙ (is ∙ L.announced.recorded h.ann old.position q old.is_decided old.old_tail)) in omega arith
 
     lag : (x : ℕ) × (L.ghost.stage x ≡ decided L.ghost.tail) × (L.ghost.ann ≡ Some x) × (L.ghost.head + L.ghost.rest ≤ L.ghost.tail + L.ghost.span x)
@@ -74,13 +74,13 @@ module _ (z : LaneSizes) (s : State) (L : Lawful z s) (c : ℕ) where
     lag_is : lag.0 ≡ h.ann
     lag_is = let t = tail_is in let more = some in let within = BO.within in let l = lag.3 in sym ((L.announced.bound lag.0 L.ghost.tail lag.1).causes (omega arith)) ∙ (ap L.ghost.cause tail_is ∙ BO.causes some)
 
-    stands : L.ghost.ann ≡ Some h.ann
+    pub stands : L.ghost.ann ≡ Some h.ann
     stands = lag.2 ∙ ap Some lag_is
 
     alone : (x : ℕ) → L.ghost.ann ≡ Some x → x ≡ h.ann
     alone x at_head = one_some (sym at_head ∙ stands)
 
-    end : L.ghost.tail + span ≡ L.ghost.head + L.ghost.rest
+    pub end : L.ghost.tail + span ≡ L.ghost.head + L.ghost.rest
     end = let t = tail_is in let within = BO.within in let l = subst (λ (y : ℕ). L.ghost.head + L.ghost.rest ≤ L.ghost.tail + L.ghost.span y) lag_is lag.3 in omega arith
 
     abbrev GT : Ghost
@@ -118,6 +118,7 @@ module _ (z : LaneSizes) (s : State) (L : Lawful z s) (c : ℕ) where
       marks = L.marks;
       history = L.history;
       queue = L.queue;
+      owners = L.owners;
       list = record {
         rows = L.list.rows;
         item_rows = L.list.item_rows;
@@ -171,15 +172,15 @@ module _ (z : LaneSizes) (s : State) (L : Lawful z s) (c : ℕ) where
   }
 
   -- where the row of a walk has no link, the announcement has left HEAD
-  walk_over : (h : Help) (r l : ℕ) → ((b : Bool) (x : ℕ) → joint b x ≡ s.memory.link r → ⊥) → Holds z (world s L.ghost) c (walks h.ann r (suc l)) → L.ghost.ann ≡ Some h.ann → ⊥
+  pub walk_over : (h : Help) (r l : ℕ) → ((b : Bool) (x : ℕ) → joint b x ≡ s.memory.link r → ⊥) → Holds z (world s L.ghost) c (walks h.ann r (suc l)) → L.ghost.ann ≡ Some h.ann → ⊥
   walk_over h r l never w at_head = let x = w.lies at_head in let sum = x.sum in let fits = L.list.head.fits in
       never (G0.chained (G0.head + x.behind)) (G0.path (suc (G0.head + x.behind))) (sym (L.list.rows.joined (G0.head + x.behind) (omega arith) (omega arith)) ∙ ap s.memory.link x.row)
 
-  joint_nil : (b : Bool) (x : ℕ) → joint b x ≡ Nil → ⊥
+  pub joint_nil : (b : Bool) (x : ℕ) → joint b x ≡ Nil → ⊥
   joint_nil true x e = cc e
   joint_nil false x e = cc e
 
-  joint_shut : (b : Bool) (x : ℕ) → joint b x ≡ Shut → ⊥
+  pub joint_shut : (b : Bool) (x : ℕ) → joint b x ≡ Shut → ⊥
   joint_shut true x e = cc e
   joint_shut false x e = cc e
 
@@ -304,6 +305,7 @@ module _ (z : LaneSizes) (s : State) (L : Lawful z s) (c : ℕ) where
       marks = marked';
       history = L.history;
       queue = L.queue ∙ ap (λ (y : ℕ). run (λ i. s.memory.value (L.ghost.path i)) (suc y) L.ghost.queued) (let f : L.ghost.head + L.ghost.shown ≡ L.ghost.head + L.ghost.shown + 0 = omega arith in f);
+      owners = L.owners ∙ ap (λ (y : ℕ). run (λ i. z.home (L.ghost.path i)) (suc y) L.ghost.queued) (let f : L.ghost.head + L.ghost.shown ≡ L.ghost.head + L.ghost.shown + 0 = omega arith in f);
       list = record {
         rows = record {
           joined = λ i from below. L.list.rows.joined i (omega arith) (omega arith);

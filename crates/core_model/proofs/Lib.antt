@@ -55,6 +55,7 @@ pub mod Takes
 pub mod HelpLoads
 pub mod HelpMoves
 pub mod Runs
+pub mod Owners
 pub mod Excess
 pub mod Decisions
 pub mod ChainRows

@@ -124,7 +124,7 @@ module _ (z : LaneSizes) (s : State) (L : Lawful z s) (c : ℕ) (d : Plan) (lone
     pub moved_many : Lawful z (changed s c (record s.memory { head = Node (far_behind d.notice.old_head r d.notice.counts.deqs) }) (s.history ++ own_group c (s.callers c) ∷ []) (marks_all (length (s.history ++ own_group c (s.callers c) ∷ [])) c (s.callers c) (Batch d.notice.counts.deqs) false d.notice.old_head))
     moved_many = subst (λ (b : Bool). Lawful z (changed s c (record s.memory { head = Node (far_behind d.notice.old_head r wanted) }) (s.history ++ own_group c me ∷ []) (marks_from (length (s.history ++ own_group c me ∷ [])) c me (Batch wanted) false d.notice.old_head b)))
         (sym (lt-ltb 0 (length me.walked + 0) (let some = lone.1 in let n = all_walked in omega arith)))
-        (head_moved z s L c d.notice.old_head r wanted me.walked (Batch wanted) refl off loose draft.known some_ops head lone.1 all_walked walked_is enough_there row_is (let l = past in let cnt = count_is in omega arith) right leaves)
+        (head_moved z s L c d.notice.old_head r wanted me.walked (Batch wanted) refl off loose draft.known some_ops (none_enqueued me.ops no_enqueue) head lone.1 all_walked walked_is enough_there row_is (let l = past in let cnt = count_is in omega arith) right leaves)
 
   -- the queue is empty
   module _ (on : Holds z (world s L.ghost) c (linked d.notice.old_head)) (seen : Holds z (world s L.ghost) c (head_seen d.notice.old_head)) (nil : s.memory.link d.notice.old_head.row ≡ Nil) where
@@ -148,7 +148,7 @@ module _ (z : LaneSizes) (s : State) (L : Lawful z s) (c : ℕ) (d : Plan) (lone
       paired_empty (Deq ∷ ops) none vs = let e = enqueue_count-deq ops in ap (λ (xs : List Answer). Empty ∷ xs) (paired_empty ops (omega arith) vs)
 
     pub all_found_empty : Lawful z (changed s c s.memory (s.history ++ own_group c (s.callers c) ∷ []) (closes (length (s.history ++ own_group c (s.callers c) ∷ [])) c (s.callers c) (Batch 0)))
-    all_found_empty = found_empty z s L c (Batch 0) refl off loose draft.known some_ops all_empty (none_left ∙ sym none_there)
+    all_found_empty = found_empty z s L c (Batch 0) refl off loose draft.known some_ops (none_enqueued me.ops no_enqueue) all_empty (none_left ∙ sym none_there)
 
 module _ (z : LaneSizes) (s : State) (L : Lawful z s) (c : ℕ) where
   abbrev own : Group

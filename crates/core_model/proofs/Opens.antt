@@ -138,6 +138,7 @@ opens z = record {
   ghost = first_ghost;
   history = record { known = All-nil (λ (g : Group). g.caller < z.callers); filled = All-nil (λ (g : Group). g.ops ≢ []); numbered = λ _. refl };
   queue = refl;
+  owners = refl;
   sizes = is_lane z;
   list = record {
     rows = record {

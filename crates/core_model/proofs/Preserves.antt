@@ -33,7 +33,7 @@ use Rattle.lane_steps.specs.declared.course.Course.{Course}
 use Rattle.lane_steps.specs.declared.course.Course.TheVariants.{GoesOn}
 use Rattle.core_model.specs.Ghost.{Due, Stage, waiting, Ghost, World}
 use Rattle.core_model.specs.Kept.{Stands, Kept}
-use Rattle.core_model.specs.Lawful.{shown_queue, InOrder, Announced, GuardsOwn, HelpsOwn, Told, IsTold, Pending, Waits, Allowed, Marked, OfCaller, Lawful, OwnGroups, Guards, GuardsRow, held_by}
+use Rattle.core_model.specs.Lawful.{shown_queue, queue_owners, shown_owners, InOrder, Announced, GuardsOwn, HelpsOwn, Told, IsTold, Pending, Waits, Allowed, Marked, OfCaller, Lawful, OwnGroups, Guards, GuardsRow, held_by}
 use Rattle.core_model.proofs.Puts.{put_here, put_else, put_all}
 use Rattle.core_model.proofs.Groups.{length-operations-push}
 use Rattle.core_model.proofs.StoredAgain.{write_read, leaves}
@@ -214,18 +214,20 @@ module _ (z : LaneSizes) (s : State) (L : Lawful z s) (c : ℕ) where
       → Marked memory.mark g.spot g.reader g.passer g.head g.shown
       → IsProper z.callers h
       → last_queue h ≡ shown_queue memory.value g
+      → queue_owners h ≡ shown_owners z.home g
       → InOrder z memory h g
       → Announced z memory g
       → ((a : ℕ) → IsTold z memory g (put s.callers c k) a)
       → ((a : ℕ) → Waits z memory g (put s.callers c k) a)
       → OfCaller z record { memory = memory; history = h; ghost = g } c k
       → Lawful z (changed s c memory h k)
-  preserves memory h g k Touch homes rely others marks proper queue list announced told pending mine' = let w : World = record { memory = memory; history = h; ghost = g } in record {
+  preserves memory h g k Touch homes rely others marks proper queue owners list announced told pending mine' = let w : World = record { memory = memory; history = h; ghost = g } in record {
     ghost = g;
     sizes = L.sizes;
     marks = marks;
     history = proper;
     queue = queue;
+    owners = owners;
     list = list;
     announced = announced;
     told = told;
@@ -242,6 +244,7 @@ module _ (z : LaneSizes) (s : State) (L : Lawful z s) (c : ℕ) where
     marks = L.marks;
     history = L.history;
     queue = L.queue;
+    owners = L.owners;
     list = L.list;
     announced = L.announced;
     told = told_plain s.memory L.ghost k plain L.told;
@@ -257,6 +260,7 @@ module _ (z : LaneSizes) (s : State) (L : Lawful z s) (c : ℕ) where
     marks = L.marks;
     history = L.history;
     queue = L.queue;
+    owners = L.owners;
     list = L.list;
     announced = L.announced;
     told = told_on s.memory L.ghost t (plain_or_own (stepped me t) t knows) L.told;
@@ -307,6 +311,7 @@ module _ (z : LaneSizes) (s : State) (L : Lawful z s) (c : ℕ) where
     marks = L.marks;
     history = L.history;
     queue = L.queue;
+    owners = L.owners;
     list = L.list;
     announced = L.announced;
     told = told_plain s.memory G k f.1 L.told;

@@ -112,7 +112,7 @@ module _ (z : LaneSizes) (s : State) (L : Lawful z s) (c : ℕ) where
           row_held = R.row_holds d ne;
           debts = debts_same (world s L.ghost) reheld refl refl refl refl refl d;
         })
-        L.marks L.history L.queue L.list L.announced
+        L.marks L.history L.queue L.owners L.list L.announced
         (told_regarding z s L c rewritten reheld.ghost t h r plain L.told)
         (waits_regarding z s L c rewritten reheld.ghost t h r L.pending)
         (let o = L.callers c in let f = o.knows in record {

@@ -88,6 +88,7 @@ module _ (z : LaneSizes) (s : State) (L : Lawful z s) (c : ℕ) where
         marks = L.marks;
         history = L.history;
         queue = L.queue;
+        owners = L.owners;
         list = L.list;
         announced = announced';
         told = told';

@@ -159,7 +159,7 @@ module _ (z : LaneSizes) (s : State) (L : Lawful z s) (c : ℕ) where
         → Knows z record { memory = record s.memory { mark = put s.memory.mark r m }; history = s.history; ghost = record L.ghost { reader = reader'; passer = passer'; keeper = put L.ghost.keeper i c } } c k → Lawful z (changed s c (record s.memory { mark = put s.memory.mark r m }) s.history k)
     marks_set plain k hold row_hold groups allowed knows = preserves z s L c memory' s.history G' k (λ _. ⊥) (λ _ x. absurd x) marking
         (λ d ne. record { linearized = refl; made = refl; drafts = drafts_same z (world s G) W refl refl refl d; hazard = refl; held = refl; row_hazard = refl; row_held = refl; debts = others d ne })
-        marked' L.history L.queue L.list L.announced
+        marked' L.history L.queue L.owners L.list L.announced
         (told_plain z s L c memory' G' k plain L.told)
         (waits_plain z s L c memory' G' k plain (waits_there z s L c) (λ a waits. let p = L.pending a waits in
         pending_same z s.memory.link s.memory.link s.memory.value s.memory.value s.memory.mark memory'.mark G.spot G.spot G.chain (G.linearized (owner_of z a)) (G.linearized (owner_of z a)) (s.memory.notice a) (owner_of z a) (s.callers (owner_of z a))

@@ -33,6 +33,7 @@ module _ (z : LaneSizes) (s : State) (L : Lawful z s) (c : ℕ) where
     marks = L.marks;
     history = L.history;
     queue = L.queue;
+    owners = L.owners;
     list = record {
       rows = L.list.rows;
       item_rows = L.list.item_rows;

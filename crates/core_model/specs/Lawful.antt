@@ -1,9 +1,9 @@
 -- What is true of a lane between any two steps.
-use Rattle.std.specs.Prelude.{◌≡◌, ◌≢◌, ◌⊎◌, ℕ, suc, ◌+◌, ◌-◌, ◌*◌, ◌<◌, ◌≤◌, ◌++◌, ◌==◌, Bool, true, false, cond, List, [], ◌∷◌, length, Option, Some, None}
+use Rattle.std.specs.Prelude.{◌≡◌, ◌≢◌, ◌⊎◌, ℕ, suc, ◌+◌, ◌-◌, ◌*◌, ◌<◌, ◌≤◌, ◌++◌, ◌==◌, Bool, true, false, cond, List, [], ◌∷◌, length, map, Option, Some, None}
 use Rattle.bq_model.specs.declared.op.Op.{Op}
 use Rattle.bq_model.specs.declared.group.Group.{Group}
 use Rattle.bq_model.specs.History.{operations, last_queue}
-use Rattle.bq_model.specs.Own.{mine}
+use Rattle.bq_model.specs.Own.{mine, items_from}
 use Rattle.bq_model.specs.Proper.{IsProper}
 use Rattle.bq_model.specs.Values.{enqueued}
 use Rattle.word_rows.specs.declared.place.Place.{Place}
@@ -32,6 +32,14 @@ use Rattle.lane_steps.specs.declared.point.Hold.TheVariants.{Free, Names, Held}
 -- the values of the rows behind the shown head, first to last
 abbrev pub shown_queue : (ℕ → ℕ) → Ghost → List ℕ
 shown_queue value g = run (λ i. value (g.path i)) (suc (g.head + g.shown)) g.queued
+
+-- who enqueued each value of the last queue
+abbrev pub queue_owners : List Group → List ℕ
+queue_owners h = map (λ item. item.caller) (items_from [] h)
+
+-- the homes of the rows behind the shown head
+abbrev pub shown_owners : (ℕ → ℕ) → Ghost → List ℕ
+shown_owners home g = run (λ i. home (g.path i)) (suc (g.head + g.shown)) g.queued
 
 -- the rows from the dummy on, along the links
 pub record Listed (rows : ℕ) (link : ℕ → LinkWord) (path : ℕ → ℕ) (chained : ℕ → Bool) (spot : ℕ → Option ℕ) (head rest : ℕ) : Type 0 where
@@ -242,6 +250,8 @@ pub record Lawful (z : LaneSizes) (s : State) : Type 0 where
   -- the history is proper, and the shown queue is its last queue
   pub history : IsProper z.callers s.history
   pub queue : last_queue s.history ≡ shown_queue s.memory.value ghost
+  -- each of its values stands in a row of the caller that enqueued it
+  pub owners : queue_owners s.history ≡ shown_owners z.home ghost
   pub sizes : IsLane z
   pub list : InOrder z s.memory s.history ghost
   pub marks : Marked s.memory.mark ghost.spot ghost.reader ghost.passer ghost.head ghost.shown

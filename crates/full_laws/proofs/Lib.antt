@@ -1,2 +1,2 @@
 -- Lemmas on the definitions of the crates below, in files named for their topics.
-pub mod Drawn
+pub mod Roomed

@@ -95,7 +95,7 @@ pub fn make_all<L: Lane, R: Wait>(
     ensures pass_stays { (L.pass_identity session.new.pass ≡ L.pass_identity session.old.pass) × (L.pass_shape session.new.pass ≡ L.pass_shape session.old.pass) × (L.callers session.new.pass ≡ L.callers session.old.pass) }
 {
     for _ in rt.forever() {
-        match session.evaluate(rt, lane, ticket) {
+        match session.evaluate(lane, ticket) {
             Ok(outcome) => return Ok(outcome),
             Err(EvalFault::Full(same)) => return Err(same),
             Err(EvalFault::Spent(same)) => ticket = same,
@@ -115,12 +115,7 @@ pub fn withdraw_all<L: Lane>(session: &mut Session<L>, held: &VecDeque<Ticket>)
 }
 
 /// Spends the tickets of operations that were withdrawn.
-pub fn spend_all<L: Lane, R: Wait>(
-    rt: &R,
-    lane: &L,
-    session: &mut Session<L>,
-    held: &mut VecDeque<Ticket>,
-)
+pub fn spend_all<L: Lane>(lane: &L, session: &mut Session<L>, held: &mut VecDeque<Ticket>)
     requires of_this_lane { (L.pass_identity session.old.pass ≡ L.identity lane.now) × (L.pass_shape session.old.pass ≡ L.lane_shape lane.now) }
     requires holds { Holds session.old.futures.lane session.old.futures.caller [] (some_withdrawn 0 (length held.old.items)) held.old.items session.old }
     ensures holds { Holds session.old.futures.lane session.old.futures.caller [] [] [] session.new }
@@ -129,7 +124,7 @@ pub fn spend_all<L: Lane, R: Wait>(
     ensures capacity_stays { deque_capacity held.new ≡ deque_capacity held.old }
 {
     while let Some(ticket) = held.pop_front() {
-        let _ = session.evaluate(rt, lane, ticket);
+        let _ = session.evaluate(lane, ticket);
     }
 }
 
@@ -141,7 +136,7 @@ pub fn dequeue_once<L: Lane, R: Wait>(rt: &R, lane: &L, session: &mut Session<L>
     ensures pass_stays { (L.pass_identity session.new.pass ≡ L.pass_identity session.old.pass) × (L.pass_shape session.new.pass ≡ L.pass_shape session.old.pass) × (L.callers session.new.pass ≡ L.callers session.old.pass) }
 {
     for _ in rt.forever() {
-        if let Ok(outcome) = session.dequeue(rt, lane) {
+        if let Ok(outcome) = session.dequeue(lane) {
             return outcome;
         }
     }

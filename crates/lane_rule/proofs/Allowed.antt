@@ -1,5 +1,5 @@
 -- Each step of the machine is allowed on the table: one lemma for all kinds.
-use Rattle.std.proofs.Common.{◌≡◌, ◌≢◌, ℕ, zero, suc, inl, None, ◌<◌, List, [], ◌∷◌, ◌++◌, length, get_or, set, sym, refl, ap, ◌∙◌, subst, ⊎_elim, append_assoc}
+use Rattle.std.proofs.Common.{◌≡◌, ◌≢◌, ℕ, zero, suc, inl, None, ◌<◌, List, [], ◌∷◌, ◌++◌, length, get_or, set, sym, refl, ap, ◌∙◌, subst, ⊎_elim, append_assoc, arith}
 use Rattle.std.proofs.lemmas.List.{append-nil}
 use mathlib.Core.Option.{some, some-ne-none}
 use lib.ListN.{get_elem?}
@@ -21,19 +21,20 @@ use Rattle.lane_steps.specs.Coded.{IsCoded}
 use Rattle.core_model.specs.Few.{ListsFit}
 use Rattle.core_model.specs.Lawful.{Lawful}
 use Rattle.core_model.proofs.Puts.{put_here, put_else}
-use Rattle.core_model.proofs.Steps.{preserves_at}
 use Rattle.core_model.proofs.CodedSteps.{step_writes}
 use Rattle.core_model.proofs.FewSteps.{lists_fit}
-use Rattle.row_stock.specs.Draws.{LacksRows}
-use Rattle.row_stock.proofs.DrawSteps.{draws_at}
-use Rattle.row_stock.proofs.Lacking.{full_lacks}
+use Rattle.lane_room.specs.Search.{IsAbove}
+use Rattle.lane_room.proofs.RoomySteps.{roomy_at, full_at}
 use Rattle.lane_rule.specs.declared.view.View.{View}
 use Rattle.lane_rule.specs.declared.view.Held.{Held}
 use Rattle.lane_rule.specs.declared.view.Kind.{Kind}
 use Rattle.lane_rule.specs.declared.view.Kind.TheVariants.{Maker, Alone, Gathered, Spent}
-use Rattle.lane_rule.specs.Rule.{caller_of, kept_of, Begins, Runs, AllHeld, SitsAs, Sits, Ruled}
-use Rattle.lane_rule.specs.Goes.{Ready, Goes}
-use Rattle.lane_rule.proofs.Ready.{ready, found_at, coded_at, own_is_free, grew, knows}
+use Rattle.lane_rule.specs.Rule.{caller_of, kept_of, Begins, Runs, AllHeld, SitsAs, Sits, Ruled, RanksOf}
+use Rattle.lane_rule.specs.Goes.{Ready, Goes, left_of}
+use Rattle.lane_rule.proofs.Ready.{ready, found_at, own_is_free, grew, knows}
+use Rattle.lane_steps.specs.Functions.{put}
+use Rattle.lane_rank.specs.Return.{left, Ranked}
+use Rattle.lane_rank.proofs.RankedSteps.{ranked_at}
 
 module _ {A : Type 0} where
   -- a list that has an item at i takes another there
@@ -46,6 +47,13 @@ module _ {A : Type 0} where
 held_stay : (key : Shape) (core core' : State) (seat : ℕ → ℕ) (j : ℕ) → ((d : ℕ) → seat d ≡ j → core'.callers d ≡ core.callers d) → (ks : List Held) → AllHeld key core seat j ks → AllHeld key core' seat j ks
 held_stay key core core' seat j same [] a = tt
 held_stay key core core' seat j same (k ∷ ks) a = (a.0, a.1, same k.caller a.1 ∙ a.2, held_stay key core core' seat j same ks a.3)
+
+-- a view of another seat has its caller's ranks still, where caller c keeps others
+pub ranks_else : (key : Shape) (core : State) (seat : ℕ → ℕ) (j c o i : ℕ) (outer inner : ℕ → ℕ) → (seat c ≡ j → ⊥) → (k : Kind) (u : View) → SitsAs key core seat j k u → RanksOf outer inner k u → RanksOf (put outer c o) (put inner c i) k u
+ranks_else key core seat j c o i outer inner apart Maker u s e = tt
+ranks_else key core seat j c o i outer inner apart Alone u s e = let other = λ (same : u.caller ≡ c). apart (ap seat (sym same) ∙ s.alone) in (e.0 ∙ sym (put_else outer c o u.caller other), e.1 ∙ sym (put_else inner c i u.caller other))
+ranks_else key core seat j c o i outer inner apart Gathered u s e = tt
+ranks_else key core seat j c o i outer inner apart Spent u s e = tt
 
 pub longer : (seen h added : List Group) → Begins seen h → Begins seen (h ++ added)
 longer seen h added b = (b.0 ++ added, ap (λ (y : List Group). y ++ added) b.1 ∙ append_assoc seen b.0 added)
@@ -79,26 +87,30 @@ module _ (key : Shape) (slots id : ℕ) (me : Me ℕ View) (alone : me.0.kind �
     abbrev k' : Caller
     k' = after z (length h') me.0.caller (r.core.callers me.0.caller) me.0.kept.point x
 
-    abbrev w : View
-    w = record me.0 { kept = kept_of k'; seen = h'; gathered = []; heard = [] }
-
-    grows : h' ≡ r.core.history ++ added_by z r.core.callers me.0.caller me.0.kept.point x
-    grows = grew (linearizes me.0.kept.point x) r.core.history (own_group (group_owner z me.0.caller me.0.kept.point) (r.core.callers (group_owner z me.0.caller me.0.kept.point)))
-
     sits : Runs key r.core r.seat id me.0
     sits = subst (λ (k : Kind). SitsAs key r.core r.seat id k me.0) alone (r.each_seat id me.0 here)
 
     point_is : (r.core.callers me.0.caller).point ≡ me.0.kept.point
     point_is = ap (λ (k : Caller). k.point) sits.shown
 
+    -- the ranks that the caller keeps then
+    kept_ranks : (o : ℕ) × (i : ℕ) × Ranked key core' (put r.outer me.0.caller o) (put r.inner me.0.caller i) × (0 < length k'.ops → left key k' o i < left key (r.core.callers me.0.caller) (r.outer me.0.caller) (r.inner me.0.caller))
+    kept_ranks = ranked_at key r.core r.outer r.inner r.ranked me.0.caller sits.known me.0.kept.point point_is
+
+    abbrev w : View
+    w = record me.0 { kept = kept_of k'; outer = kept_ranks.0; inner = kept_ranks.1; seen = h'; gathered = []; heard = [] }
+
+    grows : h' ≡ r.core.history ++ added_by z r.core.callers me.0.caller me.0.kept.point x
+    grows = grew (linearizes me.0.kept.point x) r.core.history (own_group (group_owner z me.0.caller me.0.kept.point) (r.core.callers (group_owner z me.0.caller me.0.kept.point)))
+
     lawful' : Lawful z core'
-    lawful' = preserves_at z r.core r.lawful me.0.caller me.0.kept.point point_is
+    lawful' = kept_ranks.2.lawful
 
     codable' : IsCoded key core'
-    codable' = coded_at key r.core r.lawful r.codable me.0.caller me.0.kept.point point_is
+    codable' = kept_ranks.2.coded
 
     is_ready : Ready key me.0.caller me.0.kept.point
-    is_ready = subst (Ready key me.0.caller) point_is (ready key r.core r.lawful r.codable me.0.caller)
+    is_ready = subst (Ready key me.0.caller) point_is (ready key r.core r.ranked.lawful r.ranked.coded me.0.caller)
 
     found_word : get_or s.words (index_of key (target me.0.caller me.0.kept.point)) 0 ≡ coded x
     found_word = r.shows.each (target me.0.caller me.0.kept.point) is_ready.word
@@ -123,15 +135,35 @@ module _ (key : Shape) (slots id : ℕ) (me : Me ℕ View) (alone : me.0.kind �
         (λ (p : (j ≢ id) × (get_elem? s.views j ≡ some u)). sits_stay key r.core core' r.seat j (added_by z r.core.callers me.0.caller me.0.kept.point x)
         (λ d at. put_else r.core.callers me.0.caller k' d (λ e. p.0 (sym at ∙ (ap r.seat e ∙ sits.alone)))) grows u.kind u (r.each_seat j u p.1)) (at_set s.views id j w u e)
 
+    own_ranks : (k : Kind) → RanksOf (put r.outer me.0.caller kept_ranks.0) (put r.inner me.0.caller kept_ranks.1) k w
+    own_ranks Maker = tt
+    own_ranks Alone = (sym (put_here r.outer me.0.caller kept_ranks.0), sym (put_here r.inner me.0.caller kept_ranks.1))
+    own_ranks Gathered = tt
+    own_ranks Spent = tt
+
+    ranks : (j : ℕ) (u : View) → get_elem? (set s.views id w) j ≡ some u → RanksOf (put r.outer me.0.caller kept_ranks.0) (put r.inner me.0.caller kept_ranks.1) u.kind u
+    ranks j u e = ⊎_elim
+        (λ (p : (j ≡ id) × (w ≡ u)). subst (λ (y : View). RanksOf (put r.outer me.0.caller kept_ranks.0) (put r.inner me.0.caller kept_ranks.1) y.kind y) p.1 (own_ranks me.0.kind))
+        (λ (p : (j ≢ id) × (get_elem? s.views j ≡ some u)). ranks_else key r.core r.seat j me.0.caller kept_ranks.0 kept_ranks.1 r.outer r.inner (λ at. p.0 (sym at ∙ sits.alone)) u.kind u (r.each_seat j u p.1) (r.each_rank j u p.1)) (at_set s.views id j w u e)
+
+    -- what the view kept is what the caller did
+    was_left : left_of me.0 ≡ left key (r.core.callers me.0.caller) (r.outer me.0.caller) (r.inner me.0.caller)
+    was_left = let e = subst (λ (k : Kind). RanksOf r.outer r.inner k me.0) alone (r.each_rank id me.0 here) in λ j. left (sits.planned j) (sym sits.shown j) (e.0 j) (e.1 j)
+
+    less : 0 < length k'.ops → left_of w < left_of me.0
+    less runs = let fewer = kept_ranks.3 runs in let was = was_left in let now : left_of w ≡ left key k' kept_ranks.0 kept_ranks.1 = λ j. left (sits.planned j) k' kept_ranks.0 kept_ranks.1 in omega arith
+
     steps : (n : ℕ) → n ≡ coded (stored me.0.caller me.0.kept.point x) → Ruled key (stepped s (index_of key (target me.0.caller me.0.kept.point)) n id me.1 w keeps)
     steps n is = record {
       core = core';
-      lawful = lawful';
-      codable = codable';
-      draws = draws_at z r.core r.lawful r.draws me.0.caller me.0.kept.point point_is;
+      outer = put r.outer me.0.caller kept_ranks.0;
+      inner = put r.inner me.0.caller kept_ranks.1;
+      ranked = kept_ranks.2;
+      roomy = roomy_at key r.core r.roomy me.0.caller me.0.kept.point point_is;
       seat = r.seat;
       shows = new_words n is;
       each_seat = seated;
+      each_rank = ranks;
       longest = (id, w, set_there s.views id me.0 w here, inl refl);
     }
 
@@ -143,11 +175,12 @@ module _ (key : Shape) (slots id : ℕ) (me : Me ℕ View) (alone : me.0.kind �
       shape = refl;
       later = (sits.begins.0 ++ added_by z r.core.callers me.0.caller me.0.kept.point x, grows ∙ ap (λ (h : List Group). h ++ added_by z r.core.callers me.0.caller me.0.kept.point x) sits.begins.1 ∙ append_assoc me.0.seen sits.begins.0 (added_by z r.core.callers me.0.caller me.0.kept.point x));
       heard = refl;
-      found = subst (λ (p : Shape). MayHold p (target me.0.caller me.0.kept.point) x) (sym sits.planned) (found_at key r.core r.lawful r.codable me.0.caller me.0.kept.point point_is);
-      own_word = λ a is. subst (λ (t : Point). hazard_in (read r.core.memory (target me.0.caller t)) ≡ None) point_is (own_is_free key r.core r.lawful r.codable me.0.caller a (point_is ∙ is));
-      full = λ some idle full. subst (λ (y : Shape × Caller). LacksRows (lane_sizes y.0) y.1.mine y.1.ops) (λ i. (sym sits.planned i, sits.shown i)) (full_lacks z r.core r.lawful r.draws me.0.caller me.0.kept.point point_is (subst (λ (k : Caller). 0 < length k.ops) (sym sits.shown) some) (ap (λ (k : Caller). k.point) here' ∙ idle) (ap (λ (k : Caller). k.outcome) here' ∙ full));
+      found = subst (λ (p : Shape). MayHold p (target me.0.caller me.0.kept.point) x) (sym sits.planned) (found_at key r.core r.ranked.lawful r.ranked.coded me.0.caller me.0.kept.point point_is);
+      own_word = λ a is. subst (λ (t : Point). hazard_in (read r.core.memory (target me.0.caller t)) ≡ None) point_is (own_is_free key r.core r.ranked.lawful r.ranked.coded me.0.caller a (point_is ∙ is));
+      full = λ runs idle full. subst (λ (y : Shape × Caller). IsAbove y.0 h' me.0.caller y.1.ops y.1.started_at) (λ i. (sym sits.planned i, sits.shown i)) (full_at key r.core r.roomy me.0.caller me.0.kept.point point_is (subst (λ (k : Caller). 0 < length k.ops) (sym sits.shown) runs) (ap (λ (k : Caller). k.point) here' ∙ idle) (ap (λ (k : Caller). k.outcome) here' ∙ full));
       ready = subst (λ (p : Shape). Ready p me.0.caller k'.point) (sym sits.planned) (subst (λ (k : Caller). Ready key me.0.caller k.point) here' (ready key core' lawful' codable' me.0.caller));
       knows = knows key core' lawful' w sits.planned refl here';
+      less = less;
       lists = subst (λ (y : Shape × Caller). ListsFit y.0.callers y.1) (λ i. (sym sits.planned i, here' i)) (lists_fit key core' lawful' me.0.caller);
     }
 

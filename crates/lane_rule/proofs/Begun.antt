@@ -23,16 +23,15 @@ use Rattle.lane_steps.specs.Step.{target, stored}
 use Rattle.lane_steps.specs.Start as starting
 use Rattle.lane_steps.specs.Start.{PassesAllowance}
 use Rattle.core_model.proofs.Puts.{put_here, put_else}
-use Rattle.core_model.proofs.Steps.{preserves_start}
-use Rattle.core_model.proofs.CodedStarts.{start_coded}
-use Rattle.row_stock.proofs.DrawSteps.{draws_start}
+use Rattle.lane_room.proofs.Roomy.{roomy_starts}
 use Rattle.lane_rule.specs.declared.view.View.{View}
 use Rattle.lane_rule.specs.declared.view.Kind.{Kind}
 use Rattle.lane_rule.specs.declared.view.Kind.TheVariants.{Alone, Gathered}
-use Rattle.lane_rule.specs.Rule.{Runs, SitsAs, Sits, Longest, Ruled}
+use Rattle.lane_rule.specs.Rule.{Runs, SitsAs, Sits, Longest, Ruled, RanksOf}
 use Rattle.lane_rule.specs.Goes.{Goes}
 use Rattle.lane_rule.specs.Begun.{MayStart, begun}
 use Rattle.lane_rule.proofs.Allowed.{set_there, allows, sits_stay}
+use Rattle.lane_rank.proofs.Ranked.{starts_as_it_was}
 
 -- the same view has seen the history, if it was that of the seat id and w keeps what it had seen
 pub longest_set : (views : List View) (h : List Group) (id : ℕ) (v w : View) → get_elem? views id ≡ some v → w.seen ≡ v.seen → (v.kind ≡ Gathered → ⊥) → Longest views h → Longest (set views id w) h
@@ -86,9 +85,12 @@ module _ (key : Shape) (s : table.State ℕ View) (r : Ruled key s) (id : ℕ) (
   pub start_ruled : Ruled key record { words = s.words; homes = s.homes; views = set s.views id (begun v n ops) }
   start_ruled = record {
     core = core';
-    lawful = preserves_start (lane_sizes key) r.core r.lawful v.caller ops may.command idle sits.known left;
-    codable = start_coded key r.core r.lawful r.codable v.caller idle sits.known ops may.command left short may.values;
-    draws = draws_start (lane_sizes key) r.core r.lawful r.draws v.caller idle ops;
+    outer = r.outer;
+    inner = r.inner;
+    ranked = starts_as_it_was key r.core r.outer r.inner r.ranked v.caller ops record { caller = sits.known; idle = idle; command = may.command; short = short; allowed = left; words = may.values };
+    each_rank = λ j u e. ⊎_elim (λ (p : (j ≡ id) × (begun v n ops ≡ u)). subst (λ (y : View). RanksOf r.outer r.inner y.kind y) p.1 (subst (λ (k : Kind). RanksOf r.outer r.inner k (begun v n ops)) (sym alone) (subst (λ (k : Kind). RanksOf r.outer r.inner k v) alone (r.each_rank id v at))))
+        (λ (p : (j ≢ id) × (get_elem? s.views j ≡ some u)). r.each_rank j u p.1) (at_set s.views id j (begun v n ops) u e);
+    roomy = roomy_starts key r.core r.roomy v.caller ops sits.known idle may.command short left;
     seat = r.seat;
     shows = r.shows;
     longest = longest_set s.views r.core.history id v (begun v n ops) at refl (alone_not v alone) r.longest;

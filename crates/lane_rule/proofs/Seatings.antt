@@ -24,11 +24,12 @@ use Rattle.lane_rule.specs.declared.view.View.{View}
 use Rattle.lane_rule.specs.declared.view.Held.{Held}
 use Rattle.lane_rule.specs.declared.view.Kind.{Kind}
 use Rattle.lane_rule.specs.declared.view.Kind.TheVariants.{Maker, Alone, Gathered, Spent}
-use Rattle.lane_rule.specs.Rule.{caller_of, Begins, AllHeld, HasOne, SitsAs, Sits, Longest, Ruled}
+use Rattle.lane_rule.specs.Rule.{caller_of, Begins, AllHeld, HasOne, SitsAs, Sits, Longest, Ruled, RanksOf}
 use Rattle.lane_rule.specs.Plays.{IsWhole}
 use Rattle.lane_rule.specs.Seating.{made, newcomer_of, held_as, joined, spent, Idles, Has, Holds, caught_up}
-use Rattle.lane_rule.proofs.Allowed.{set_there}
+use Rattle.lane_rule.proofs.Allowed.{set_there, ranks_else}
 use Rattle.lane_rule.proofs.Begun.{longest_set}
+use Rattle.lane_rank.proofs.Ranked.{resets}
 
 module _ {A : Type 0} where
   at_end : (l : List A) (a b : A) (j : ℕ) → get_elem? (l ++ a ∷ []) j ≡ some b → (get_elem? l j ≡ some b) ⊎ ((a ≡ b) × (j ≡ length l))
@@ -60,10 +61,14 @@ moves key core seat seat' j same Spent v s = s
 pub makes : (key : Shape) (id : ℕ) (v : View) → v.kind ≡ Maker → v.caller < v.shape.callers → Splits (Ruled key) id v (made v) (newcomer_of v)
 makes key id v is room s r at = record {
   core = r.core;
-  lawful = r.lawful;
+  outer = put r.outer v.caller 0;
+  inner = put r.inner v.caller 0;
+  ranked = resets key r.core r.outer r.inner r.ranked v.caller (ap (λ (k : Caller). k.point) (mine.2 v.caller (omega arith)).1);
+  each_rank = λ j u e. ⊎_elim (λ (t : get_elem? (set s.views id (made v)) j ≡ some u). old_rank j u t)
+      (λ (t : (newcomer_of v ≡ u) × (j ≡ length (set s.views id (made v)))). subst (λ (y : View). RanksOf (put r.outer v.caller 0) (put r.inner v.caller 0) y.kind y) t.0 (sym (put_here r.outer v.caller 0), sym (put_here r.inner v.caller 0)))
+      (at_end (set s.views id (made v)) (newcomer_of v) u j e);
   seat = seat';
-  codable = r.codable;
-  draws = r.draws;
+  roomy = r.roomy;
   shows = r.shows;
   longest = later (longest_set s.views r.core.history id v (made v) at refl maker_not r.longest);
   each_seat = λ j u e. ⊎_elim (λ (t : get_elem? (set s.views id (made v)) j ≡ some u). old j u t) (λ (t : (newcomer_of v ≡ u) × (j ≡ length (set s.views id (made v)))). subst (Sits key r.core seat' j) t.0 (new j (t.1 ∙ length-set s.views id (made v))))
@@ -88,6 +93,10 @@ makes key id v is room s r at = record {
 
   stays : (d j : ℕ) → j ≢ id → r.seat d ≡ j → put r.seat v.caller (length s.views) d ≡ j
   stays d j ne e = put_else r.seat v.caller (length s.views) d (λ same. ne (sym e ∙ (ap r.seat same ∙ here))) ∙ e
+
+  old_rank : (j : ℕ) (u : View) → get_elem? (set s.views id (made v)) j ≡ some u → RanksOf (put r.outer v.caller 0) (put r.inner v.caller 0) u.kind u
+  old_rank j u e = ⊎_elim (λ (t : (j ≡ id) × (made v ≡ u)). subst (λ (y : View). RanksOf (put r.outer v.caller 0) (put r.inner v.caller 0) y.kind y) t.1 (subst (λ (k : Kind). RanksOf (put r.outer v.caller 0) (put r.inner v.caller 0) k (made v)) (sym is) tt))
+      (λ (t : (j ≢ id) × (get_elem? s.views j ≡ some u)). ranks_else key r.core r.seat j v.caller 0 0 r.outer r.inner (λ e. t.0 (sym e ∙ here)) u.kind u (r.each_seat j u t.1) (r.each_rank j u t.1)) (at_set s.views id j (made v) u e)
 
   maker : SitsAs key r.core (put r.seat v.caller (length s.views)) id Maker (made v)
   maker = (mine.0, mine.1, λ c l. let y = mine.2 c (omega arith) in (put_else r.seat v.caller (length s.views) c (λ e. omega arith) ∙ y.0, y.1))
@@ -125,10 +134,14 @@ pub gathers : (key sh : Shape) (id other : ℕ) (v w : View) → Idles v.kind �
 gathers key sh id other v w iv iw hv hw s r at ne at' = record {
   longest = best r.longest;
   core = r.core;
-  lawful = r.lawful;
+  outer = r.outer;
+  inner = r.inner;
+  ranked = r.ranked;
+  each_rank = λ j u e. ⊎_elim (λ (t : (j ≡ other) × (spent sh ≡ u)). subst (λ (y : View). RanksOf r.outer r.inner y.kind y) t.1 tt)
+      (λ (t : (j ≢ other) × (get_elem? (set s.views id (joined v w)) j ≡ some u)). ⊎_elim (λ (q : (j ≡ id) × (joined v w ≡ u)). subst (λ (y : View). RanksOf r.outer r.inner y.kind y) q.1 tt)
+      (λ (q : (j ≢ id) × (get_elem? s.views j ≡ some u)). r.each_rank j u q.1) (at_set s.views id j (joined v w) u t.1)) (at_set (set s.views id (joined v w)) other j (spent sh) u e);
   seat = rejoined r.seat id other;
-  codable = r.codable;
-  draws = r.draws;
+  roomy = r.roomy;
   shows = r.shows;
   each_seat = λ j u e. ⊎_elim (λ (t : (j ≡ other) × (spent sh ≡ u)). subst (Sits key r.core (rejoined r.seat id other) j) t.1 refl)
       (λ (t : (j ≢ other) × (get_elem? (set s.views id (joined v w)) j ≡ some u)). rest j u t.0 t.1) (at_set (set s.views id (joined v w)) other j (spent sh) u e);
@@ -193,10 +206,13 @@ learns key slots id me is s r _ at _ = let w : View = caught_up me.0 r.core.hist
   tt,
   subst (λ (ws : List ℕ). Ruled key record { words = ws; homes = s.homes; views = set s.views id w }) (sym (set-get_or s.words 0 0)) record {
     core = r.core;
-    lawful = r.lawful;
+    outer = r.outer;
+    inner = r.inner;
+    ranked = r.ranked;
+    each_rank = λ j u e. ⊎_elim (λ (t : (j ≡ id) × (w ≡ u)). subst (λ (y : View). RanksOf r.outer r.inner y.kind y) t.1 (subst (λ (k : Kind). RanksOf r.outer r.inner k w) (sym is) tt))
+        (λ (t : (j ≢ id) × (get_elem? s.views j ≡ some u)). r.each_rank j u t.1) (at_set s.views id j w u e);
     seat = r.seat;
-    codable = r.codable;
-    draws = r.draws;
+    roomy = r.roomy;
     shows = r.shows;
     longest = (id, w, set_there s.views id me.0 w at, inl refl);
     each_seat = λ j u e. ⊎_elim (λ (t : (j ≡ id) × (w ≡ u)). subst (λ (y : ℕ × View). Sits key r.core r.seat y.0 y.1) (λ i. (sym t.0 i, t.1 i)) (subst (λ (k : Kind). SitsAs key r.core r.seat id k w) (sym is) (mine.0, ([], sym (append-nil r.core.history)), (r.core.history, refl), mine.3, mine.4)))
@@ -208,12 +224,12 @@ learns key slots id me is s r _ at _ = let w : View = caught_up me.0 r.core.hist
   own c k [] a h idle = absurd h
   own c k (x ∷ xs) a h idle = ⊎_elim
       (λ (e : (x.caller ≡ c) × (x.kept ≡ k)). let shown : r.core.callers c ≡ caller_of k = ap r.core.callers (sym e.0) ∙ (a.2 ∙ ap caller_of e.1) in
-      idle_groups (lane_sizes key) r.core r.lawful c (ap (λ (y : Caller). y.point) shown ∙ idle) ∙ ap (λ (y : Caller). y.mine) shown)
+      idle_groups (lane_sizes key) r.core r.ranked.lawful c (ap (λ (y : Caller). y.point) shown ∙ idle) ∙ ap (λ (y : Caller). y.mine) shown)
       (λ (t : Holds c k xs). own c k xs a.3 t idle) h
 
   whole : IsWhole (caught_up me.0 r.core.history)
   whole = record {
-    proper = subst (λ (z : Shape). IsProper z.callers r.core.history) (sym (subst (λ (k : Kind). SitsAs key r.core r.seat id k me.0) is (r.each_seat id me.0 at)).3) r.lawful.history;
+    proper = subst (λ (z : Shape). IsProper z.callers r.core.history) (sym (subst (λ (k : Kind). SitsAs key r.core r.seat id k me.0) is (r.each_seat id me.0 at)).3) r.ranked.lawful.history;
     own = λ c k has idle. own c k me.0.gathered (subst (λ (k : Kind). SitsAs key r.core r.seat id k me.0) is (r.each_seat id me.0 at)).0 has idle;
   }
 
@@ -256,11 +272,11 @@ closed_own key s r id v at is all c k has idle = by v.gathered mine.0 has where
   mine = subst (λ (k : Kind). SitsAs key r.core r.seat id k v) is (r.each_seat id v at)
 
   one : r.core.callers c ≡ caller_of k → mine_of v.seen c ≡ k.mine
-  one e = ap (λ (h : List Group). mine_of h c) all ∙ (idle_groups (lane_sizes key) r.core r.lawful c (ap (λ (y : Caller). y.point) e ∙ idle) ∙ ap (λ (y : Caller). y.mine) e)
+  one e = ap (λ (h : List Group). mine_of h c) all ∙ (idle_groups (lane_sizes key) r.core r.ranked.lawful c (ap (λ (y : Caller). y.point) e ∙ idle) ∙ ap (λ (y : Caller). y.mine) e)
 
   by : (ks : List Held) → AllHeld key r.core r.seat id ks → Holds c k ks → mine_of v.seen c ≡ k.mine
   by [] a h = absurd h
   by (x ∷ xs) a h = ⊎_elim (λ (e : (x.caller ≡ c) × (x.kept ≡ k)). one (ap r.core.callers (sym e.0) ∙ (a.2 ∙ ap caller_of e.1))) (λ (t : Holds c k xs). by xs a.3 t) h
 
 pub closed_proper : (key : Shape) (s : table.State ℕ View) (r : Ruled key s) (v : View) → v.seen ≡ r.core.history → IsProper key.callers v.seen
-closed_proper key s r v all = subst (IsProper key.callers) (sym all) r.lawful.history
+closed_proper key s r v all = subst (IsProper key.callers) (sym all) r.ranked.lawful.history

@@ -43,6 +43,7 @@ stored_moves id key s c t p q l y x at by m = let g = m.2 in (
     ready = g.ready;
     knows = g.knows;
     lists = g.lists;
+    less = g.less;
   },
   m.3,
 ) where

@@ -15,8 +15,9 @@ use Rattle.lane_steps.specs.Start.{opening}
 use Rattle.lane_steps.specs.Ranges.{RowsFit, CountsFit}
 use Rattle.lane_steps.specs.declared.point.CallEnd.TheVariants.{Done, Full}
 use Rattle.core_model.specs.Few.{ListsFit}
-use Rattle.row_stock.specs.Draws.{LacksRows}
+use Rattle.lane_room.specs.Search.{IsAbove}
 use Rattle.core_model.specs.Lawful.{Allowed}
+use Rattle.lane_rank.specs.Return.{left}
 use Rattle.core_model.specs.Ended.{EndedDone}
 use Rattle.bq_model.specs.Proper.{IsProper}
 use Rattle.bq_model.specs.Own.{mine}
@@ -43,6 +44,10 @@ pub record Knows (v : View) : Type 0 where
   pub allowed : Allowed (lane_sizes v.shape) v.kept.mine v.kept.ops
   pub done : v.kept.point ≡ point.Idle → v.kept.outcome ≡ Some Done → EndedDone (seen_by v) v.caller
 
+-- how much is left of the command of a view's caller
+abbrev pub left_of : View → ℕ
+left_of v = left v.shape (caller_of v.kept) v.outer v.inner
+
 -- the caller's next point, after its word contained x
 pub record Goes (v : View) (x : Content) (w : View) : Type 0 where
   pub alone : w.kind ≡ Alone
@@ -54,9 +59,11 @@ pub record Goes (v : View) (x : Content) (w : View) : Type 0 where
   pub found : MayHold v.shape (target v.caller v.kept.point) x
   -- in its scan for rows it finds nothing in its own hazard word
   pub own_word : (a : Closing) → v.kept.point ≡ point.Close a (close.LoadHazard v.caller) → hazard_in x ≡ None
-  -- where its command ends with Full, a row is lacking for that behind those of its ended commands
-  pub full : 0 < length v.kept.ops → w.kept.point ≡ point.Idle → w.kept.outcome ≡ Some Full → LacksRows (lane_sizes v.shape) v.kept.mine v.kept.ops
+  -- where its command ends with Full, its own queued items and its enqueues passed the room, at a moment since it began
+  pub full : 0 < length v.kept.ops → w.kept.point ≡ point.Idle → w.kept.outcome ≡ Some Full → IsAbove v.shape w.seen v.caller v.kept.ops v.kept.started_at
   pub ready : Ready w.shape w.caller w.kept.point
   pub knows : Knows w
+  -- while its command goes on, less is left of it
+  pub less : 0 < length w.kept.ops → left_of w < left_of v
   -- what it keeps in its lists fits its next point
   pub lists : ListsFit w.shape.callers (caller_of w.kept)

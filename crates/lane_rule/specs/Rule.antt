@@ -1,5 +1,5 @@
 -- The rule of a lane's table, in three layers: the words are the codes of contents, the contents are those of the machine's
--- state, and the state is lawful. The views show what the machine keeps of each caller.
+-- state, and the state is lawful, with the ranks that its callers kept. The views show what the machine keeps of each caller.
 use Rattle.std.specs.Prelude.{◌≡◌, ◌⊎◌, ℕ, ◌<◌, ◌≤◌, List, [], ◌∷◌, ◌++◌}
 use mathlib.Core.Option.{some}
 use lib.ListN.{get_elem?}
@@ -10,9 +10,8 @@ use Rattle.word_rows.specs.Memory.{Shows}
 use Rattle.lane_steps.specs.LaneSizes.{lane_sizes}
 use Rattle.lane_steps.specs.State.{Caller, State, read}
 use Rattle.lane_steps.specs.Start.{newcomer}
-use Rattle.core_model.specs.Lawful.{Lawful}
-use Rattle.lane_steps.specs.Coded.{IsCoded}
-use Rattle.row_stock.specs.Draws.{Draws}
+use Rattle.lane_rank.specs.Return.{Ranked}
+use Rattle.lane_room.specs.Roomy.{Roomy}
 use Rattle.lane_rule.specs.declared.view.View.{View}
 use Rattle.lane_rule.specs.declared.view.Kept.{Kept}
 use Rattle.lane_rule.specs.declared.view.Held.{Held}
@@ -56,26 +55,33 @@ module _ (key : Shape) (core : State) (seat : ℕ → ℕ) (j : ℕ) where
   abbrev pub Sits : View → Type 0
   Sits v = SitsAs v.kind v
 
+-- the view of a caller has the ranks that it kept
+abbrev pub RanksOf : (ℕ → ℕ) → (ℕ → ℕ) → Kind → View → Type 0
+RanksOf outer inner Alone v = (v.outer ≡ outer v.caller) × (v.inner ≡ inner v.caller)
+RanksOf outer inner _ v = Unit {0}
+
 -- some view has seen, or heard in a gathering, the whole history
 abbrev pub Longest : List View → List Group → Type 0
 Longest views h = (j : ℕ) × (v : View) × (get_elem? views j ≡ some v) × ((v.seen ≡ h) ⊎ ((v.kind ≡ Gathered) × (v.heard ≡ h)))
 
 -- The words and the views of a table show a state of the machine.
 pub record Ruled (key : Shape) (s : table.State ℕ View) : Type 0 where
-  -- it is lawful, and all that it has can be coded
+  -- it is lawful, and all that it has can be coded; these are the ranks that its callers kept
   pub core : State
-  pub lawful : Lawful (lane_sizes key) core
-  pub codable : IsCoded key core
-  -- which commands took the rows of each caller
-  pub draws : Draws (lane_sizes key) core
+  pub outer : ℕ → ℕ
+  pub inner : ℕ → ℕ
+  pub ranked : Ranked key core outer inner
+  -- no caller keeps back more than its share of the rows, and each knows how far its search has come
+  pub roomy : Roomy key core
   -- each word is the code of what the state has there
   pub shows : Shows key s.words (read core.memory)
   -- each caller has a seat, and the seat's view shows what the state has of it
   pub seat : ℕ → ℕ
   pub each_seat : (j : ℕ) (v : View) → get_elem? s.views j ≡ some v → Sits key core seat j v
+  pub each_rank : (j : ℕ) (v : View) → get_elem? s.views j ≡ some v → RanksOf outer inner v.kind v
   -- no group of the history is unseen by all
   pub longest : Longest s.views core.history
 
 -- the first view, from which those of the callers are cut
 abbrev pub opened : Shape → View
-opened key = record { kind = Maker; caller = 0; kept = kept_of newcomer; gathered = []; seen = []; heard = []; shape = key }
+opened key = record { kind = Maker; caller = 0; kept = kept_of newcomer; outer = 0; inner = 0; gathered = []; seen = []; heard = []; shape = key }

@@ -49,6 +49,9 @@ pub struct View {
     pub kind: Kind,
     pub caller: u64,
     pub kept: Kept,
+    /// The ranks that the caller kept: with what its round rests on, and with what the round of its help rests on.
+    pub outer: u64,
+    pub inner: u64,
     /// The callers that were gathered.
     pub gathered: LinkedList<Held>,
     /// The history so far.

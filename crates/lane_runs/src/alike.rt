@@ -1,4 +1,4 @@
-// A job file is run on each kind of lane, and the text of the replies is the same.
+// A job file is run by hands on the lane, and the text of the replies is what it must be.
 ghost use Rattle.std.specs.Prelude.{◌≤◌};
 
 use bq_lane::BqLane;
@@ -10,7 +10,6 @@ use std::process::Abort;
 use std::sync::Wait;
 use std::test::Fail;
 use std::thread::Threads;
-use turn_lane::TurnLane;
 
 // The text of the replies to the jobs, from so many hands that make so many dequeues as one.
 fn replied<L: Lane, R: Threads + Wait + Sync>(
@@ -31,7 +30,7 @@ fn replied<L: Lane, R: Threads + Wait + Sync>(
     Ok(text)
 }
 
-/// The replies to these jobs are these, by so many hands on either lane.
+/// The replies to these jobs are these, by so many hands.
 pub fn replies_alike<R: Threads + Wait + Sync + Abort>(
     rt: &R,
     alloc: Global,
@@ -46,9 +45,10 @@ pub fn replies_alike<R: Threads + Wait + Sync + Abort>(
     let Ok(file) = read_jobs(alloc, jobs) else {
         return Err(Fail::from("no job file"));
     };
-    let in_turns = replied::<TurnLane, R>(rt, alloc, &file, hands, batch)?;
-    assert!(rt; in_turns.as_slice() == replies, "in turns");
-    let without_locks = replied::<BqLane, R>(rt, alloc, &file, hands, batch)?;
-    assert!(rt; without_locks.as_slice() == replies, "without locks");
+    let text = replied::<BqLane, R>(rt, alloc, &file, hands, batch)?;
+    assert!(rt;
+        text.as_slice() == replies,
+        "{hands} hands, {batch} dequeues"
+    );
     Ok(())
 }

@@ -1,6 +1,6 @@
-//! Tests of whole runs of a job file, over the lanes that there are.
+//! Tests of whole runs of a job file, over the lane that runs.
 //!
-//! `alike` runs a file on each kind of lane. `nightly` has a short one, by several numbers of hands, and `many` a long one,
+//! `alike` runs a file and compares the replies. `nightly` has a short one, by several numbers of hands, and `many` a long one,
 //! by one hand.
 #![tactic(auto)]
 

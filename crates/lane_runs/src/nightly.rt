@@ -38,7 +38,7 @@ const REPLIES: &[u8] = b"0 60
 ";
 
 #[test]
-fn hands_of_any_number_reply_alike_on_both_lanes(rt: HostRuntime) -> Result<(), Fail> {
+fn hands_of_any_number_reply_alike(rt: HostRuntime) -> Result<(), Fail> {
     for hands in [1, 4, 16] {
         for batch in [1, 3, 256] {
             replies_alike(&rt, rt.alloc(), JOBS, REPLIES, hands, batch)?;

@@ -5,7 +5,6 @@ use bq_model::{Lane, Op, OutOfMemory, Shape};
 use bq_session::{EvalFault, Outcome, PlainFault, Refused, Session, Ticket};
 use std::alloc::Global;
 use std::marker::Model;
-use std::sync::Wait;
 
 /// What a call answers.
 #[derive(Clone, Copy, Debug, PartialEq, Eq)]
@@ -108,7 +107,7 @@ impl<L: Lane> Bench<L> {
     }
 
     // Evaluates a ticket, and puts it back where it comes back.
-    fn evaluate<R: Wait>(&mut self, rt: &R, k: usize) -> Told {
+    fn evaluate(&mut self, k: usize) -> Told {
         let Some(slot) = self.tickets.get_mut(k) else {
             return Told::Nothing;
         };
@@ -118,7 +117,7 @@ impl<L: Lane> Bench<L> {
         if !self.session.owns(&ticket) {
             return Told::Nothing;
         }
-        match self.session.evaluate(rt, &self.lane, ticket) {
+        match self.session.evaluate(&self.lane, ticket) {
             Ok(outcome) => outcome_told(&outcome),
             Err(EvalFault::Spent(back)) => {
                 self.put_back(k, back);
@@ -139,7 +138,7 @@ impl<L: Lane> Bench<L> {
     }
 
     /// Makes a call.
-    pub fn answer<R: Wait>(&mut self, rt: &R, call: Call) -> Result<Told, OutOfMemory> {
+    pub fn answer(&mut self, call: Call) -> Result<Told, OutOfMemory> {
         match call {
             Call::FutureEnqueue(v) => {
                 let made = self.session.future_enqueue(v);
@@ -149,22 +148,22 @@ impl<L: Lane> Bench<L> {
                 let made = self.session.future_dequeue();
                 self.keep(made)
             }
-            Call::Evaluate(k) => Ok(self.evaluate(rt, k)),
-            Call::Enqueue(v) => Ok(self.enqueue(rt, v)),
-            Call::Dequeue => Ok(self.dequeue(rt)),
+            Call::Evaluate(k) => Ok(self.evaluate(k)),
+            Call::Enqueue(v) => Ok(self.enqueue(v)),
+            Call::Dequeue => Ok(self.dequeue()),
             Call::WithdrawLast => Ok(self.withdraw_last()),
         }
     }
 
-    fn enqueue<R: Wait>(&mut self, rt: &R, v: u64) -> Told {
-        match self.session.enqueue(rt, &self.lane, v) {
+    fn enqueue(&mut self, v: u64) -> Told {
+        match self.session.enqueue(&self.lane, v) {
             Ok(()) => Told::Done,
             Err(fault) => fault_told(fault),
         }
     }
 
-    fn dequeue<R: Wait>(&mut self, rt: &R) -> Told {
-        match self.session.dequeue(rt, &self.lane) {
+    fn dequeue(&mut self) -> Told {
+        match self.session.dequeue(&self.lane) {
             Ok(outcome) => outcome_told(&outcome),
             Err(fault) => fault_told(fault),
         }

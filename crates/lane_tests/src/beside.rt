@@ -1,17 +1,14 @@
 // Callers beside each other on one lane, each in a thread of its own.
 ghost use Rattle.std.specs.Prelude.{◌≡◌, ◌<◌, ◌≤◌, ◌+◌, ◌^◌, length, IfOk};
-ghost use Rattle.std.specs.Thread.{IsSync};
 
+use bq_lane::BqLane;
 use bq_model::{Answer, Lane, OutOfMemory, Shape};
 use std::alloc::Global;
-use std::sync::Wait;
 use std::test::Fail;
 use std::thread::{Threads, join};
-use turn_lane::TurnLane;
 
 // A caller enqueues a hundred values, from this one on, and then dequeues a hundred times. Gives what it got.
-fn puts_and_takes<L: Lane, R: Wait>(
-    rt: &R,
+fn puts_and_takes<L: Lane>(
     alloc: Global,
     lane: &L,
     pass: &mut L::Pass,
@@ -22,13 +19,13 @@ fn puts_and_takes<L: Lane, R: Wait>(
     requires first { first ≤ 1000 }
 {
     for k in 0..100 {
-        if lane.enqueue(rt, pass, first + k).is_err() {
+        if lane.enqueue(pass, first + k).is_err() {
             return Ok(Vec::new(alloc));
         }
     }
     let mut got = Vec::new(alloc);
     for _ in 0..100 {
-        if let Ok(Answer::Got(value)) = lane.dequeue(rt, pass) {
+        if let Ok(Answer::Got(value)) = lane.dequeue(pass) {
             got.push(value)?;
         }
     }
@@ -36,7 +33,7 @@ fn puts_and_takes<L: Lane, R: Wait>(
 }
 
 // Two callers do so at once.
-fn both<L: Lane, R: Threads + Wait + Sync>(
+fn both<L: Lane, R: Threads>(
     rt: &R,
     alloc: Global,
     lane: &L,
@@ -51,11 +48,11 @@ fn both<L: Lane, R: Threads + Wait + Sync>(
     let (one, other) = join(
         rt,
         move || -> Result<Vec<u64>, OutOfMemory>
-            requires { IsSync R.row × (L.pass_identity first ≡ L.identity lane.now) × (L.pass_shape first ≡ L.lane_shape lane.now) × (length (L.callers first) ≡ 1) }
-        { puts_and_takes(rt, alloc, lane, &mut first, 0) },
+            requires { (L.pass_identity first ≡ L.identity lane.now) × (L.pass_shape first ≡ L.lane_shape lane.now) × (length (L.callers first) ≡ 1) }
+        { puts_and_takes(alloc, lane, &mut first, 0) },
         move || -> Result<Vec<u64>, OutOfMemory>
-            requires { IsSync R.row × (L.pass_identity second ≡ L.identity lane.now) × (L.pass_shape second ≡ L.lane_shape lane.now) × (length (L.callers second) ≡ 1) }
-        { puts_and_takes(rt, alloc, lane, &mut second, 1000) },
+            requires { (L.pass_identity second ≡ L.identity lane.now) × (L.pass_shape second ≡ L.lane_shape lane.now) × (length (L.callers second) ≡ 1) }
+        { puts_and_takes(alloc, lane, &mut second, 1000) },
     );
     let mut got = one?;
     for value in other? {
@@ -65,7 +62,7 @@ fn both<L: Lane, R: Threads + Wait + Sync>(
 }
 
 // Two callers of a new lane do so at once.
-fn two_beside<L: Lane, R: Threads + Wait + Sync>(
+fn two_beside<L: Lane, R: Threads>(
     rt: &R,
     alloc: Global,
     shape: &Shape,
@@ -83,7 +80,7 @@ fn two_beside<L: Lane, R: Threads + Wait + Sync>(
 fn two_callers_get_each_value_once(rt: HostRuntime) -> Result<(), Fail> {
     let shape = Shape::new(2, 1, 256, 1000, 0).ok_or("no shape")?;
     assert!(rt; shape.callers() == 2);
-    let mut got = two_beside::<TurnLane, _>(&rt, rt.alloc(), &shape)?;
+    let mut got = two_beside::<BqLane, _>(&rt, rt.alloc(), &shape)?;
     got.sort_unstable();
     let mut wanted = Vec::new(rt.alloc());
     for value in (0..100).chain(1000..1100) {

@@ -1,34 +1,27 @@
 // Two callers of a lane, as another crate writes them.
 ghost use Rattle.std.specs.Prelude.{◌≡◌, ◌≤◌};
 
+use bq_lane::BqLane;
 use bq_model::{Lane, OutOfMemory, Shape};
 use bq_session::{Outcome, Refused, Session, Ticket};
 use std::alloc::Global;
-use std::sync::Wait;
 use std::test::Fail;
-use turn_lane::TurnLane;
 
 // Evaluates a future. Gives the value, if it is a dequeue that got one.
-fn value_of<L: Lane, R: Wait>(
-    rt: &R,
-    lane: &L,
-    session: &mut Session<L>,
-    future: Ticket,
-) -> Option<u64>
+fn value_of<L: Lane>(lane: &L, session: &mut Session<L>, future: Ticket) -> Option<u64>
     requires of_this_lane { (L.pass_identity session.old.pass ≡ L.identity lane.now) × (L.pass_shape session.old.pass ≡ L.lane_shape lane.now) }
 {
     if !session.owns(&future) {
         return None;
     }
-    match session.evaluate(rt, lane, future) {
+    match session.evaluate(lane, future) {
         Ok(Outcome::Got(claim)) => Some(claim.value()),
         _ => None,
     }
 }
 
 // Puts off two enqueues and a dequeue, and makes the three as one group. Gives what the dequeue got.
-fn puts_two_and_takes_one<L: Lane, R: Wait>(
-    rt: &R,
+fn puts_two_and_takes_one<L: Lane>(
     lane: &L,
     session: &mut Session<L>,
 ) -> Result<Option<u64>, Refused>
@@ -37,15 +30,11 @@ fn puts_two_and_takes_one<L: Lane, R: Wait>(
     let _five = session.future_enqueue(5)?;
     let _six = session.future_enqueue(6)?;
     let future = session.future_dequeue()?;
-    Ok(value_of(rt, lane, session, future))
+    Ok(value_of(lane, session, future))
 }
 
 // Makes a lane for two callers. The first makes its group, and then the second dequeues. Gives what both got.
-fn both<L: Lane, R: Wait>(
-    rt: &R,
-    alloc: Global,
-    shape: &Shape,
-) -> Result<(Option<u64>, Option<u64>), OutOfMemory>
+fn both<L: Lane>(alloc: Global, shape: &Shape) -> Result<(Option<u64>, Option<u64>), OutOfMemory>
     requires callers { shape.now.callers ≡ 2 }
     requires batch { 3 ≤ shape.now.batch }
 {
@@ -55,11 +44,11 @@ fn both<L: Lane, R: Wait>(
     };
     let mut first = Session::new(alloc, 0, first, 3, 3)?;
     let mut second = Session::new(alloc, 0, second, 1, 1)?;
-    let one = match puts_two_and_takes_one(rt, &lane, &mut first) {
+    let one = match puts_two_and_takes_one(&lane, &mut first) {
         Ok(got) => got,
         Err(_) => None,
     };
-    let other = match second.dequeue(rt, &lane) {
+    let other = match second.dequeue(&lane) {
         Ok(Outcome::Got(claim)) => Some(claim.value()),
         _ => None,
     };
@@ -70,7 +59,7 @@ fn both<L: Lane, R: Wait>(
 fn second_caller_gets_what_the_first_left(rt: HostRuntime) -> Result<(), Fail> {
     let shape = Shape::new(2, 4, 8, 100, 0).ok_or("no shape")?;
     assert!(rt; shape.callers() == 2 && shape.batch() == 4);
-    let (one, other) = both::<TurnLane, _>(&rt, rt.alloc(), &shape)?;
+    let (one, other) = both::<BqLane>(rt.alloc(), &shape)?;
     assert_eq!(rt; one, Some(5));
     assert_eq!(rt; other, Some(6));
     Ok(())

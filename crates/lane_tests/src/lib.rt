@@ -1,4 +1,4 @@
-//! Tests of sessions, and of callers beside each other, over the lanes that run.
+//! Tests of sessions, and of callers beside each other, over the lane that runs.
 //!
 //! `calling` has two callers as docs/CALLING.md shows them. `bench` has a lane of one caller with its session, and `slow`
 //! a model of both that does each operation by itself; `worked` has the worked examples over them, and `sequences` the

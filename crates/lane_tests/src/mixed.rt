@@ -8,10 +8,8 @@ use bq_lane::BqLane;
 use bq_model::{Answer, Answers, Batch, Lane, Op, OutOfMemory, Shape};
 use std::alloc::Global;
 use std::process::Abort;
-use std::sync::Wait;
 use std::test::Fail;
 use std::thread::{Threads, join};
-use turn_lane::TurnLane;
 
 // Which operations a caller makes.
 #[derive(Clone, Copy, PartialEq, Eq)]
@@ -29,14 +27,14 @@ struct Plan<'a> {
 }
 
 // Puts so many operations into the batch, the enqueues with the next values. Which ones are enqueues of a mixed batch
-// depends on the turn.
-fn fill(batch: &mut Batch, kind: Kind, turn: usize, length: u32, next: &mut u64)
+// depends on its number.
+fn fill(batch: &mut Batch, kind: Kind, number: usize, length: u32, next: &mut u64)
     requires capacity { batch.old.capacity ≡ 8 }
     ensures capacity { batch.new.capacity ≡ 8 }
 {
     batch.clear();
     for place in 0..length.min(8) {
-        let even = (turn / 2 + place as usize) % 2 == 0;
+        let even = (number / 2 + place as usize) % 2 == 0;
         let op = if kind == Kind::Enqueues || kind == Kind::Mixed && even {
             let value = *next;
             *next = value.wrapping_add(1);
@@ -61,8 +59,7 @@ fn take_values(got: &mut Vec<u64>, answers: &[Answer]) -> Result<(), OutOfMemory
 }
 
 // A plain call of each kind that the plan has.
-fn plain_calls<L: Lane, R: Wait>(
-    rt: &R,
+fn plain_calls<L: Lane>(
     lane: &L,
     pass: &mut L::Pass,
     kind: Kind,
@@ -73,11 +70,11 @@ fn plain_calls<L: Lane, R: Wait>(
     requires one_caller { length (L.callers pass.old) ≡ 1 }
     ensures pass_stays { (L.pass_identity pass.new ≡ L.pass_identity pass.old) × (L.pass_shape pass.new ≡ L.pass_shape pass.old) × (L.callers pass.new ≡ L.callers pass.old) }
 {
-    if kind != Kind::Dequeues && lane.enqueue(rt, pass, value).is_err() {
+    if kind != Kind::Dequeues && lane.enqueue(pass, value).is_err() {
         return Err(OutOfMemory);
     }
     if kind != Kind::Enqueues {
-        if let Ok(answer) = lane.dequeue(rt, pass) {
+        if let Ok(answer) = lane.dequeue(pass) {
             take_values(got, &[answer])?;
         }
     }
@@ -85,8 +82,7 @@ fn plain_calls<L: Lane, R: Wait>(
 }
 
 // A caller does what its plan says, with the values from this one on. Gives its pass and what it got.
-fn works<L: Lane, R: Wait>(
-    rt: &R,
+fn works<L: Lane>(
     alloc: Global,
     lane: &L,
     mut pass: L::Pass,
@@ -103,19 +99,19 @@ fn works<L: Lane, R: Wait>(
     let mut out = Answers::new(alloc, 8)?;
     let mut got = Vec::new(alloc);
     let mut next = first;
-    for (turn, length) in plan.lengths.iter().enumerate() {
-        fill(&mut batch, plan.kind, turn, *length, &mut next);
-        if batch.is_empty() || lane.apply(rt, &mut pass, &batch, &mut out).is_err() {
+    for (number, length) in plan.lengths.iter().enumerate() {
+        fill(&mut batch, plan.kind, number, *length, &mut next);
+        if batch.is_empty() || lane.apply(&mut pass, &batch, &mut out).is_err() {
             return Err(OutOfMemory);
         }
         take_values(&mut got, out.as_slice())?;
     }
-    plain_calls(rt, lane, &mut pass, plan.kind, next, &mut got)?;
+    plain_calls(lane, &mut pass, plan.kind, next, &mut got)?;
     Ok((pass, got))
 }
 
 // Two callers beside each other. Gives the pass of both, and what each got.
-fn two_work<L: Lane, R: Threads + Wait + Sync>(
+fn two_work<L: Lane, R: Threads>(
     rt: &R,
     alloc: Global,
     lane: &L,
@@ -135,13 +131,13 @@ fn two_work<L: Lane, R: Threads + Wait + Sync>(
     let (one, other) = join(
         rt,
         move || -> Result<(L::Pass, Vec<u64>), OutOfMemory>
-            requires { IsSync R.row × (L.pass_identity a ≡ L.identity lane.now) × (L.pass_shape a ≡ L.lane_shape lane.now) × (length (L.callers a) ≡ 1) × (8 ≤ (L.lane_shape lane.now).batch) }
+            requires { (L.pass_identity a ≡ L.identity lane.now) × (L.pass_shape a ≡ L.lane_shape lane.now) × (length (L.callers a) ≡ 1) × (8 ≤ (L.lane_shape lane.now).batch) }
             ensures { IfOk result (λ made. (L.pass_identity made.0 ≡ L.identity lane.entry.now) × (L.pass_shape made.0 ≡ L.lane_shape lane.entry.now) × (L.callers made.0 ≡ L.callers a)) }
-        { works(rt, alloc, lane, a, first, plan) },
+        { works(alloc, lane, a, first, plan) },
         move || -> Result<(L::Pass, Vec<u64>), OutOfMemory>
-            requires { IsSync R.row × (L.pass_identity b ≡ L.identity lane.now) × (L.pass_shape b ≡ L.lane_shape lane.now) × (length (L.callers b) ≡ 1) × (8 ≤ (L.lane_shape lane.now).batch) × (first ≤ 2000) }
+            requires { (L.pass_identity b ≡ L.identity lane.now) × (L.pass_shape b ≡ L.lane_shape lane.now) × (length (L.callers b) ≡ 1) × (8 ≤ (L.lane_shape lane.now).batch) × (first ≤ 2000) }
             ensures { IfOk result (λ made. (L.pass_identity made.0 ≡ L.identity lane.entry.now) × (L.pass_shape made.0 ≡ L.lane_shape lane.entry.now) × (L.callers made.0 ≡ L.callers b)) }
-        { works(rt, alloc, lane, b, first + 1000, plan) },
+        { works(alloc, lane, b, first + 1000, plan) },
     );
     let (front, got) = one?;
     let (back, also) = other?;
@@ -160,7 +156,7 @@ struct Gains {
 
 // The four callers beside each other, the first two by one plan and the others by another. Gives the pass of all of them,
 // and what each got.
-fn four_work<L: Lane, R: Threads + Wait + Sync>(
+fn four_work<L: Lane, R: Threads + Sync>(
     rt: &R,
     alloc: Global,
     lane: &L,
@@ -204,8 +200,7 @@ fn four_work<L: Lane, R: Threads + Wait + Sync>(
 }
 
 // A caller takes what is left, up to a thousand values.
-fn takes_the_rest<L: Lane, R: Wait>(
-    rt: &R,
+fn takes_the_rest<L: Lane>(
     lane: &L,
     pass: &mut L::Pass,
     got: &mut Vec<u64>,
@@ -215,7 +210,7 @@ fn takes_the_rest<L: Lane, R: Wait>(
     ensures pass_stays { (L.pass_identity pass.new ≡ L.pass_identity pass.old) × (L.pass_shape pass.new ≡ L.pass_shape pass.old) × (L.callers pass.new ≡ L.callers pass.old) }
 {
     for _ in 0..1000 {
-        match lane.dequeue(rt, pass) {
+        match lane.dequeue(pass) {
             Ok(Answer::Got(value)) => got.push(value)?,
             _ => return Ok(()),
         }
@@ -240,7 +235,7 @@ fn last_pass<L: Lane>(lane: &L, passes: &mut Vec<L::Pass>, number: u32) -> Optio
 }
 
 // Four callers work, and the last one takes what they left. Then the lane is closed.
-fn work_and_close<L: Lane, R: Threads + Wait + Sync>(
+fn work_and_close<L: Lane, R: Threads + Sync>(
     rt: &R,
     alloc: Global,
     lane: L,
@@ -255,14 +250,14 @@ fn work_and_close<L: Lane, R: Threads + Wait + Sync>(
     requires five { ((L.lane_shape lane).callers ≡ 5) × (8 ≤ (L.lane_shape lane).batch) }
 {
     let (four, mut gains) = four_work(rt, alloc, &lane, front, back, plans)?;
-    takes_the_rest(rt, &lane, &mut last, &mut gains.left)?;
+    takes_the_rest(&lane, &mut last, &mut gains.left)?;
     let all = lane.gather(four, last);
     let _book = lane.close(all);
     Ok(gains)
 }
 
 // Five callers of a new lane do so.
-fn five_beside<L: Lane, R: Threads + Wait + Sync>(
+fn five_beside<L: Lane, R: Threads + Sync>(
     rt: &R,
     alloc: Global,
     shape: &Shape,
@@ -302,8 +297,8 @@ fn in_order(values: &[u64]) -> bool {
     true
 }
 
-// Five callers on a lane of this kind, four of them by these plans, get each value once: so many from each of these on.
-fn gets_each_once<L: Lane, R: Threads + Wait + Sync + Abort>(
+// Five callers on a lane, four of them by these plans, get each value once: so many from each of these on.
+fn gets_each_once<L: Lane, R: Threads + Sync + Abort>(
     rt: &R,
     alloc: Global,
     plans: (&Plan<'_>, &Plan<'_>),
@@ -337,7 +332,6 @@ fn batches_of_eight_lose_and_double_nothing(rt: HostRuntime) -> Result<(), Fail>
         kind: Kind::Mixed,
         lengths: &[8; 50],
     };
-    gets_each_once::<TurnLane, _>(&rt, rt.alloc(), (&plan, &plan), &FIRSTS, 201)?;
     gets_each_once::<BqLane, _>(&rt, rt.alloc(), (&plan, &plan), &FIRSTS, 201)
 }
 
@@ -347,7 +341,6 @@ fn batches_of_mixed_sizes_lose_and_double_nothing(rt: HostRuntime) -> Result<(),
         kind: Kind::Mixed,
         lengths: &[2, 3, 5, 8, 8],
     };
-    gets_each_once::<TurnLane, _>(&rt, rt.alloc(), (&plan, &plan), &FIRSTS, 14)?;
     gets_each_once::<BqLane, _>(&rt, rt.alloc(), (&plan, &plan), &FIRSTS, 14)
 }
 
@@ -363,6 +356,5 @@ fn batches_of_dequeues_beside_enqueues_lose_and_double_nothing(
         kind: Kind::Enqueues,
         lengths: &[1, 4, 1, 1, 3, 1, 2, 1, 8, 1, 1],
     };
-    gets_each_once::<BqLane, _>(&rt, rt.alloc(), (&dequeues, &enqueues), &FIRSTS[2..], 25)?;
-    gets_each_once::<TurnLane, _>(&rt, rt.alloc(), (&dequeues, &enqueues), &FIRSTS[2..], 25)
+    gets_each_once::<BqLane, _>(&rt, rt.alloc(), (&dequeues, &enqueues), &FIRSTS[2..], 25)
 }

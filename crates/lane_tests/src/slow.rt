@@ -12,12 +12,12 @@ enum State {
     Spent,
 }
 
-/// The limits of a session and of its lane.
+/// The limits of a session and of its lane, which has so many rows for values.
 #[derive(Clone, Copy, Debug)]
 pub struct Limits {
     pub batch: usize,
     pub tickets: usize,
-    pub room: usize,
+    pub rows: usize,
     pub allowance: usize,
 }
 
@@ -26,22 +26,50 @@ pub struct Limits {
 pub struct Slow {
     limits: Limits,
     queue: VecDeque<u64>,
+    // Whether the row of the last value that was taken is in use still, before those of the queue.
+    kept: bool,
     made: usize,
     futures: Vec<(Op, State)>,
 }
 
-// Does an operation on the queue.
-fn run(queue: &mut VecDeque<u64>, made: &mut usize, op: Op) -> Result<Told, OutOfMemory> {
+// What a group has done so far.
+#[derive(Clone, Copy)]
+struct Done {
+    put: bool,
+    took: bool,
+    missed: bool,
+}
+
+const NOTHING: Done = Done {
+    put: false,
+    took: false,
+    missed: false,
+};
+
+// Does an operation of a group on the queue.
+fn run(
+    queue: &mut VecDeque<u64>,
+    made: &mut usize,
+    done: &mut Done,
+    op: Op,
+) -> Result<Told, OutOfMemory> {
     let serial = *made;
     *made = serial.wrapping_add(1);
     match op {
         Op::Enq(v) => {
             queue.push_back(v)?;
+            done.put = true;
             Ok(Told::Done)
         }
         Op::Deq => match queue.pop_front() {
-            Some(v) => Ok(Told::Got(v, serial as u64)),
-            None => Ok(Told::Empty),
+            Some(v) => {
+                done.took = true;
+                Ok(Told::Got(v, serial as u64))
+            }
+            None => {
+                done.missed = true;
+                Ok(Told::Empty)
+            }
         },
     }
 }
@@ -55,6 +83,7 @@ impl Slow {
         Slow {
             limits,
             queue: VecDeque::new(alloc),
+            kept: false,
             made: 0,
             futures: Vec::new(alloc),
         }
@@ -113,20 +142,34 @@ impl Slow {
         let new = self.enqueues().wrapping_add(enqueues);
         if self.made.wrapping_add(ops) > self.limits.allowance {
             Some(Told::Spent)
-        } else if new > 0 && self.queue.len().wrapping_add(new) > self.limits.room {
+        } else if new > 0 && self.in_use().wrapping_add(new) > self.limits.rows {
             Some(Told::Full)
         } else {
             None
         }
     }
 
-    fn make_pending(&mut self) -> Result<(), OutOfMemory> {
+    // How many rows for values are in use.
+    fn in_use(&self) -> usize {
+        self.queue.len().wrapping_add(usize::from(self.kept))
+    }
+
+    fn make_pending(&mut self) -> Result<Done, OutOfMemory> {
+        let mut done = NOTHING;
         for future in &mut self.futures {
             if future.1 == State::Pending {
-                future.1 = State::Made(run(&mut self.queue, &mut self.made, future.0)?);
+                let told = run(&mut self.queue, &mut self.made, &mut done, future.0)?;
+                future.1 = State::Made(told);
             }
         }
-        Ok(())
+        Ok(done)
+    }
+
+    // The row of the last value that a group took is kept, but where it was of dequeues alone and one of them found nothing.
+    fn keep_row(&mut self, done: Done) {
+        if done.took {
+            self.kept = done.put || !done.missed;
+        }
     }
 
     // Makes what is pending and this operation.
@@ -137,8 +180,10 @@ impl Slow {
         if let Some(refusal) = self.refusal(1, usize::from(is_enqueue(op))) {
             return Ok(refusal);
         }
-        self.make_pending()?;
-        run(&mut self.queue, &mut self.made, op)
+        let mut done = self.make_pending()?;
+        let told = run(&mut self.queue, &mut self.made, &mut done, op)?;
+        self.keep_row(done);
+        Ok(told)
     }
 
     // Evaluates the ticket of future `k`.
@@ -148,7 +193,8 @@ impl Slow {
             if let Some(refusal) = self.refusal(0, 0) {
                 return Ok(refusal);
             }
-            self.make_pending()?;
+            let done = self.make_pending()?;
+            self.keep_row(done);
         }
         Ok(self.spend(k))
     }

@@ -1,16 +1,14 @@
 // Worked examples.
 use crate::bench::{Bench, Call, Told};
 use bq_lane::BqLane;
-use bq_model::{Lane, Op, Shape};
+use bq_model::{Op, Shape};
 use std::alloc::Global;
 use std::process::Abort;
-use std::sync::Wait;
 use std::test::Fail;
-use turn_lane::TurnLane;
 
 // Makes the calls on a session with the last two sizes, over a lane with the first three: batch, room and allowance.
 // It compares the answers and what is pending and live afterwards.
-fn plays<L: Lane, R: Wait + Abort>(
+fn plays<R: Abort>(
     rt: &R,
     alloc: Global,
     sizes: (u32, u32, u64, u32, u32),
@@ -20,23 +18,24 @@ fn plays<L: Lane, R: Wait + Abort>(
     let (lane_batch, room, allowance, batch, tickets) = sizes;
     let shape = Shape::new(1, lane_batch, room, allowance, 0).ok_or("no shape")?;
     assert!(rt; 1 <= batch && batch <= shape.batch() && 1 <= tickets && tickets <= 256);
-    let mut bench = Bench::<L>::new(alloc, &shape, batch, tickets)?;
+    let mut bench = Bench::<BqLane>::new(alloc, &shape, batch, tickets)?;
     for (call, wanted) in calls {
-        assert_eq!(rt; bench.answer(rt, *call)?, *wanted, "{call:?}");
+        assert_eq!(rt; bench.answer(*call)?, *wanted, "{call:?}");
     }
     assert_eq!(rt; bench.counts(), counts);
     assert_eq!(rt; bench.end().is_none(), counts.0 == 0);
     Ok(())
 }
 
-fn spent_batches<L: Lane, R: Wait + Abort>(rt: &R, alloc: Global) -> Result<(), Fail> {
+#[test]
+fn spent_batches_stay_pending(rt: HostRuntime) -> Result<(), Fail> {
     let calls = [
         (Call::Enqueue(1), Told::Done),
         (Call::Enqueue(2), Told::Done),
         (Call::Enqueue(3), Told::Done),
         (Call::Enqueue(4), Told::Spent),
     ];
-    plays::<L, R>(rt, alloc, (4, 8, 3, 4, 4), &calls, (0, 0))?;
+    plays(&rt, rt.alloc(), (4, 8, 3, 4, 4), &calls, (0, 0))?;
     let calls = [
         (Call::Enqueue(1), Told::Done),
         (Call::Enqueue(2), Told::Done),
@@ -45,63 +44,53 @@ fn spent_batches<L: Lane, R: Wait + Abort>(rt: &R, alloc: Global) -> Result<(), 
         (Call::Evaluate(0), Told::Spent),
         (Call::Evaluate(1), Told::Spent),
     ];
-    plays::<L, R>(rt, alloc, (4, 8, 3, 4, 4), &calls, (2, 2))
+    plays(&rt, rt.alloc(), (4, 8, 3, 4, 4), &calls, (2, 2))
 }
 
+// A lane of one caller with batches of one operation and room for one value has five rows for values. The row of the last
+// value that was taken is kept, so two values are taken before another one finds a row.
 #[test]
-fn spent_batches_stay_pending(rt: HostRuntime) -> Result<(), Fail> {
-    spent_batches::<TurnLane, _>(&rt, rt.alloc())?;
-    spent_batches::<BqLane, _>(&rt, rt.alloc())
-}
-
-// Full by queued items is what it is on this lane alone.
-#[test]
-fn full_operation_is_withdrawn_and_made_later(rt: HostRuntime) -> Result<(), Fail> {
+fn session_of_the_smallest_room(rt: HostRuntime) -> Result<(), Fail> {
     let calls = [
+        (Call::Enqueue(1), Told::Done),
+        (Call::Enqueue(2), Told::Done),
+        (Call::Enqueue(3), Told::Done),
+        (Call::Enqueue(4), Told::Done),
         (Call::Enqueue(5), Told::Done),
         (Call::FutureEnqueue(6), Told::Deferred),
         (Call::Evaluate(0), Told::Full),
         (Call::WithdrawLast, Told::Took(Op::Enq(6))),
         (Call::Evaluate(0), Told::Withdrawn),
-        (Call::Dequeue, Told::Got(5, 1)),
+        (Call::Dequeue, Told::Got(1, 5)),
+        (Call::Dequeue, Told::Got(2, 6)),
         (Call::Enqueue(6), Told::Done),
     ];
-    plays::<TurnLane, _>(&rt, rt.alloc(), (1, 1, 100, 1, 2), &calls, (0, 0))
+    plays(&rt, rt.alloc(), (1, 1, 100, 1, 2), &calls, (0, 0))
 }
 
-fn limits<L: Lane, R: Wait + Abort>(rt: &R, alloc: Global) -> Result<(), Fail> {
+#[test]
+fn batches_and_tickets_end_at_their_limits(rt: HostRuntime) -> Result<(), Fail> {
     let calls = [
         (Call::FutureEnqueue(1), Told::Deferred),
         (Call::FutureEnqueue(2), Told::Deferred),
         (Call::FutureEnqueue(3), Told::BatchFull),
     ];
-    plays::<L, R>(rt, alloc, (2, 8, 100, 2, 3), &calls, (2, 2))?;
+    plays(&rt, rt.alloc(), (2, 8, 100, 2, 3), &calls, (2, 2))?;
     let calls = [
         (Call::FutureEnqueue(1), Told::Deferred),
         (Call::Dequeue, Told::Got(1, 1)),
         (Call::FutureEnqueue(2), Told::TicketsFull),
         (Call::Evaluate(0), Told::Done),
     ];
-    plays::<L, R>(rt, alloc, (2, 8, 100, 2, 1), &calls, (0, 0))
-}
-
-#[test]
-fn batches_and_tickets_end_at_their_limits(rt: HostRuntime) -> Result<(), Fail> {
-    limits::<TurnLane, _>(&rt, rt.alloc())?;
-    limits::<BqLane, _>(&rt, rt.alloc())
-}
-
-fn ends<L: Lane, R: Wait + Abort>(rt: &R, alloc: Global) -> Result<(), Fail> {
-    let calls = [
-        (Call::FutureEnqueue(1), Told::Deferred),
-        (Call::WithdrawLast, Told::Took(Op::Enq(1))),
-    ];
-    plays::<L, R>(rt, alloc, (2, 8, 100, 2, 2), &calls[..1], (1, 1))?;
-    plays::<L, R>(rt, alloc, (2, 8, 100, 2, 2), &calls, (0, 1))
+    plays(&rt, rt.alloc(), (2, 8, 100, 2, 1), &calls, (0, 0))
 }
 
 #[test]
 fn sessions_end_where_nothing_is_pending(rt: HostRuntime) -> Result<(), Fail> {
-    ends::<TurnLane, _>(&rt, rt.alloc())?;
-    ends::<BqLane, _>(&rt, rt.alloc())
+    let calls = [
+        (Call::FutureEnqueue(1), Told::Deferred),
+        (Call::WithdrawLast, Told::Took(Op::Enq(1))),
+    ];
+    plays(&rt, rt.alloc(), (2, 8, 100, 2, 2), &calls[..1], (1, 1))?;
+    plays(&rt, rt.alloc(), (2, 8, 100, 2, 2), &calls, (0, 1))
 }

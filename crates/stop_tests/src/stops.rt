@@ -1,5 +1,6 @@
 // A caller that stops before a step of any kind, and two others that make a thousand operations each.
-use crate::acts::{Act, advance, answers_of, begin, do_it, go_until, is_at, is_done};
+use crate::acts::{Act, answers_of, do_it, go_until, is_at, is_done};
+use crate::other::Other;
 use bq_model::{Answer, Op, Shape};
 use std::alloc::Global;
 use std::collections::VecDeque;
@@ -11,66 +12,6 @@ use step_core::{Machine, StepKind};
 const BATCH: &[Op] = &[Op::Enq(5), Op::Enq(6), Op::Deq];
 
 const THREE: &[Op] = &[Op::Deq, Op::Deq, Op::Deq];
-
-/// Five commands of eight operations are a round, and a hundred and twenty-five rounds are a thousand operations.
-const COMMANDS: u32 = 625;
-
-/// A caller that goes on: how many commands it has started, and the answers of those that have ended.
-#[derive(Drop)]
-struct Other {
-    caller: u32,
-    started: u32,
-    answers: Vec<Answer>,
-}
-
-impl Other {
-    fn new(alloc: Global, caller: u32) -> Other {
-        Other {
-            caller,
-            started: 0,
-            answers: Vec::new(alloc),
-        }
-    }
-
-    /// It starts its next command. Half of each round are enqueues, of values that no other command has.
-    fn start(&mut self, machine: &mut Machine) -> Result<(), Fail> {
-        let value = 2_000 * u64::from(self.caller) + 2 * u64::from(self.started);
-        match self.started % 5 {
-            0 | 3 => begin(machine, self.caller, &[Op::Enq(value)])?,
-            1 => begin(
-                machine,
-                self.caller,
-                &[Op::Enq(value), Op::Deq, Op::Enq(value + 1)],
-            )?,
-            2 => begin(machine, self.caller, &[Op::Deq, Op::Deq])?,
-            _ => begin(machine, self.caller, &[Op::Deq])?,
-        }
-        self.started = self.started.saturating_add(1);
-        Ok(())
-    }
-
-    /// Whether all its commands have ended.
-    fn has_ended(&self, machine: &Machine) -> bool {
-        self.started >= COMMANDS && is_at(machine, self.caller, None)
-    }
-
-    /// It makes its next step, or starts its next command where it is idle. Each command ends as done, and never with Full.
-    fn go_on(&mut self, rt: &impl Abort, alloc: Global, machine: &mut Machine) -> Result<(), Fail> {
-        if self.has_ended(machine) {
-            return Ok(());
-        }
-        if is_at(machine, self.caller, None) {
-            return self.start(machine);
-        }
-        advance(machine, self.caller);
-        if is_at(machine, self.caller, None) {
-            assert!(rt; is_done(machine, self.caller));
-            let answers = answers_of(alloc, machine, self.caller)?;
-            self.answers.extend_from_slice(answers.as_slice())?;
-        }
-        Ok(())
-    }
-}
 
 /// The answer of a queue to an operation.
 fn answer_of(queue: &mut VecDeque<u64>, op: Op) -> Result<Answer, Fail> {
@@ -128,6 +69,7 @@ fn assert_others_go_on(
     assert!(rt; is_at(&machine, 0, Some(kind)), "{kind:?}");
     for other in [&first, &second] {
         assert_eq!(rt; other.answers.len(), 1_000, "{kind:?}");
+        assert!(rt; other.longest < 200, "{kind:?}: {}", other.longest);
         let answers = replayed(alloc, &machine, other.caller)?;
         assert_eq!(rt; other.answers.as_slice(), answers.as_slice(), "{kind:?}");
     }

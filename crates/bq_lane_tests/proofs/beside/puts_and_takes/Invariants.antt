@@ -2,7 +2,7 @@ use Rattle.std.proofs.Common.{◌≡◌}
 use Rattle.bq_lane_tests.proofs.beside.puts_and_takes.Given as goal
 
 abbrev pub invariant-loop-k : goal.invariant-loop-k
-invariant-loop-k g l = record { table : l.pass.table ≡ l.fn.pass.table; shape : l.pass.shape ≡ l.fn.pass.shape; callers : l.pass.callers ≡ l.fn.pass.callers }
+invariant-loop-k l = record { table : l.pass.table ≡ l.fn.pass.table; shape : l.pass.shape ≡ l.fn.pass.shape; callers : l.pass.callers ≡ l.fn.pass.callers }
 
 abbrev pub invariant-loop : goal.invariant-loop
-invariant-loop g l = record { table : l.pass.table ≡ l.fn.pass.table; shape : l.pass.shape ≡ l.fn.pass.shape; callers : l.pass.callers ≡ l.fn.pass.callers }
+invariant-loop l = record { table : l.pass.table ≡ l.fn.pass.table; shape : l.pass.shape ≡ l.fn.pass.shape; callers : l.pass.callers ≡ l.fn.pass.callers }

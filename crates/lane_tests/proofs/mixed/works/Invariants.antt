@@ -2,8 +2,8 @@
 use Rattle.std.proofs.Common.{◌≡◌}
 use Rattle.lane_tests.proofs.mixed.works.Given as goal
 
-abbrev pub invariant-loop-turn : goal.invariant-loop-turn
-invariant-loop-turn g l = record {
+abbrev pub invariant-loop-number : goal.invariant-loop-number
+invariant-loop-number g l = record {
   batch : l.batch.capacity ≡ 8;
   answers : l.out.capacity ≡ 8;
   identity : g.L.Lane.pass_identity l.pass ≡ g.L.Lane.pass_identity l.fn.pass;

@@ -1,0 +1,2 @@
+-- Lemmas that the tests share.
+pub mod Lasts

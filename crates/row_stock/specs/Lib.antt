@@ -1,2 +1,0 @@
--- Which commands took the rows of a caller.
-pub mod Draws
