@@ -89,7 +89,7 @@ module _ (p q : Seat ℕ View) (n : ℕ) (ops : List Op) (xs : List Answer) (a :
 
   pub called : (b : Bool) → Ended (begun_seat p n ops) ops xs a q b → Called p ops xs a q b
   called true e = applied e
-  called false e = (record { rested = rested e.0.ended; same_groups = e.0.mine; passed = at_moment p.me.0.shape p.me.0.caller ops n p.me.0.seen q.me.0.seen e.0.ended.same.later less e.0.above }, e.1)
+  called false e = let full = at_moment p.me.0.shape p.me.0.caller ops n p.me.0.seen q.me.0.seen e.0.ended.same.later less e.0.above in (record { rested = rested e.0.ended; same_groups = e.0.mine; some = full.0; passed = full.1 }, e.1)
 
 pub goes_called : (p q r : Seat ℕ View) (n : ℕ) (ops : List Op) (xs : List Answer) (a : Scratch) (b : Bool) → length p.me.0.seen ≤ n → GoesTo (begun_seat p n ops) q → Ended q ops xs a r b → Called p ops xs a r b
 goes_called p q r n ops xs a b less goes e = called p r n ops xs a less b (ends_then (begun_seat p n ops) q r ops a refl goes xs b (subst (λ (ys : List Op). Ended q ys xs a r b) (sym goes.ops) e))

@@ -2,13 +2,12 @@
 use Rattle.std.proofs.Common.{◌≡◌, ◌≢◌, ◌↔◌, ℕ, ◌+◌, ◌^◌, ◌<◌, ◌≤◌, List, [], length, get_or, sym, ap, subst, ◌∙◌}
 use Rattle.atomic_table.specs.Seated.{TableId}
 use Rattle.atomic_table.specs.declared.shared.Seat.{Seat}
-use Rattle.bq_model.specs.declared.group.Group.{Group}
 use Rattle.bq_model.specs.declared.op.Op.{Op}
 use Rattle.bq_model.specs.declared.op.Answer.{Answer}
 use Rattle.bq_model.specs.declared.shape.Shape.{Shape}
 use Rattle.bq_model.specs.Grows.{the_caller, Grew, SawMore, AtSomePoint}
 use Rattle.bq_model.specs.Own.{mine}
-use Rattle.bq_model.specs.Rooms.{PassesAllowance}
+use Rattle.bq_model.specs.Rooms.{PassesAllowance, PassesRoom}
 use Rattle.bq_model.specs.Values.{enqueued}
 use Rattle.word_rows.specs.Sizes.{words_of}
 use Rattle.lane_steps.specs.declared.point.Point.{Point}
@@ -19,7 +18,6 @@ use Rattle.lane_rule.specs.declared.view.View.{View}
 use Rattle.lane_rule.specs.Plays.{IsIdle}
 use Rattle.bq_lane.specs.Applied.{Applied, Refused}
 use Rattle.bq_lane.specs.declared.scratch.Scratch.{Scratch}
-use Rattle.bq_lane.specs.Rooms.{PassesRoom}
 use Rattle.bq_lane.specs.Pass.{PassState, callers_of, Counted, Rests}
 use Rattle.bq_lane.proofs.Passes.{its, own, spent_is, the_caller_is}
 use Rattle.bq_lane.proofs.Commands.{may_begin}
@@ -59,8 +57,11 @@ module _ (p : Seat ℕ View) (shape : Shape) (caller : ℕ) (batches : ℕ) (ope
         own = ap (mine q.me.0.seen) (sym a.rested.same.caller) ∙ (a.rested.own ∙ (a.same_groups ∙ sym (own p.me shape caller batches operated hand r one_here)));
       })
 
-  -- it passed the room at a point of the call
-  pub passed_room : (s : Shape) → v.shape ≡ s → (q : Seat ℕ View) (at : Scratch) → Refused p ops at q → AtSomePoint (λ point. PassesRoom s point (the_caller v.callers) ops) v.seen q.me.0.seen
-  passed_room s same q at a = subst (λ (z : Shape). AtSomePoint (λ point. PassesRoom z point (the_caller v.callers) ops) v.seen q.me.0.seen) same
-      (subst (λ (w : PassState). AtSomePoint (λ point. PassesRoom w.shape point (the_caller w.callers) ops) w.seen q.me.0.seen) view
-      (subst (λ (y : Shape × ℕ). AtSomePoint (λ point. PassesRoom y.0 point y.1 ops) p.me.0.seen q.me.0.seen) (λ i. (r.planned i, the_caller_is p.me shape caller batches operated hand r one_here i)) a.passed))
+  -- it has an enqueue, and passed the room at a point of the call
+  pub passed_room : (s : Shape) → v.shape ≡ s → (q : Seat ℕ View) (at : Scratch) → Refused p ops at q → (0 < length (enqueued ops)) × AtSomePoint (λ point. PassesRoom s point (the_caller v.callers) ops) v.seen q.me.0.seen
+  passed_room s same q at a = (
+    a.some,
+    subst (λ (z : Shape). AtSomePoint (λ point. PassesRoom z point (the_caller v.callers) ops) v.seen q.me.0.seen) same
+        (subst (λ (w : PassState). AtSomePoint (λ point. PassesRoom w.shape point (the_caller w.callers) ops) w.seen q.me.0.seen) view
+        (subst (λ (y : Shape × ℕ). AtSomePoint (λ point. PassesRoom y.0 point y.1 ops) p.me.0.seen q.me.0.seen) (λ i. (r.planned i, the_caller_is p.me shape caller batches operated hand r one_here i)) a.passed)),
+  )

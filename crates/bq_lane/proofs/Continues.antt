@@ -7,7 +7,6 @@ use Rattle.bq_model.specs.declared.op.Answer.{Answer}
 use Rattle.bq_model.specs.declared.group.Group.{Group}
 use Rattle.lane_rule.specs.declared.view.View.{View}
 use Rattle.bq_model.specs.declared.shape.Shape.{Shape}
-use Rattle.lane_steps.specs.LaneSizes.{lane_sizes}
 use Rattle.lane_room.specs.Search.{IsAbove}
 use Rattle.lane_rule.specs.Rule.{Begins}
 use Rattle.bq_lane.specs.declared.scratch.Scratch.{Scratch}

@@ -49,6 +49,6 @@ module _ (id : TableId) (key s : Shape) (c : ℕ) (t : Taking) (r l : ℕ) (a : 
   seeks_on left more is = told false is a (Goes (Take t (LoadMark (suc r) left)))
       (λ n w. ap (λ (k : ℕ). followed (lane_sizes s) n c (keeping w a) (taking.after_mark t r k false)) more) (same_puts a)
 
-  pub lacks : l ≡ 0 → (mark_in x).free ≡ false → (b : Scratch) (y : Next) → ((n i : ℕ) (w : Caller) → Becomes n i w b y (closes n i (keeping w a) Full)) → SamePuts a b → IsNext id key s c b p q y
+  pub lacks : l ≡ 0 → (mark_in x).free ≡ false → (b : Scratch) (y : Next) → ((n : ℕ) (w : Caller) → Becomes n c w b y (closes n c (keeping w a) Full)) → SamePuts a b → IsNext id key s c b p q y
   lacks none is b y becomes same = told false is b y
-      (λ n w. subst (λ (k : ℕ). Becomes n c w b y (followed (lane_sizes s) n c (keeping w a) (taking.after_mark t r k false))) (sym none) (becomes n c w)) same
+      (λ n w. subst (λ (k : ℕ). Becomes n c w b y (followed (lane_sizes s) n c (keeping w a) (taking.after_mark t r k false))) (sym none) (becomes n w)) same

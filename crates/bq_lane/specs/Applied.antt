@@ -13,7 +13,8 @@ use Rattle.lane_steps.specs.declared.point.Point.TheVariants.{Idle}
 use Rattle.lane_rule.specs.declared.view.View.{View}
 use Rattle.lane_rule.specs.declared.view.Kind.TheVariants.{Alone}
 use Rattle.bq_model.specs.Grows.{AtSomePoint}
-use Rattle.bq_lane.specs.Rooms.{PassesRoom}
+use Rattle.bq_model.specs.Rooms.{PassesRoom}
+use Rattle.bq_model.specs.Values.{enqueued}
 use Rattle.bq_lane.specs.declared.scratch.Scratch.{Scratch}
 use Rattle.bq_lane.specs.Running.{Agrees, Same, group_of}
 
@@ -38,10 +39,11 @@ pub record Applied (p : Seat ℕ View) (ops : List Op) (xs : List Answer) (a : S
   pub stands : Stands q.me.0.seen (group_of p.me.0 ops) xs
   pub placed : length p.me.0.seen ≤ length stands.before
 
--- The caller made no group of these operations, for which it had no room at some moment of the call.
+-- The caller made no group of these operations. It had no room for their enqueues at some moment of the call.
 pub record Refused (p : Seat ℕ View) (ops : List Op) (a : Scratch) (q : Seat ℕ View) : Type 0 where
   pub rested : Rested p a q
   pub same_groups : q.me.0.kept.mine ≡ p.me.0.kept.mine
+  pub some : 0 < length (enqueued ops)
   pub passed : AtSomePoint (λ point. PassesRoom p.me.0.shape point p.me.0.caller ops) p.me.0.seen q.me.0.seen
 
 -- what a call has done that made its group, or that was refused

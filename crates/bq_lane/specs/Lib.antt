@@ -2,7 +2,9 @@
 pub mod Scratch
 pub mod Next
 pub mod Running
+pub mod Along
+pub mod Led
 pub mod Applied
 pub mod Made
 pub mod Pass
-pub mod Rooms
+pub mod Found

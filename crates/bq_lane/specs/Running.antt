@@ -20,7 +20,6 @@ use Rattle.lane_rule.specs.declared.view.Kind.TheVariants.{Alone}
 use Rattle.lane_rule.specs.Rule.{caller_of, Begins}
 use Rattle.core_model.specs.Few.{ListsFit, HasFew}
 use Rattle.lane_rule.specs.Goes.{Knows, left_of}
-use Rattle.lane_steps.specs.LaneSizes.{lane_sizes}
 use Rattle.lane_room.specs.Search.{IsAbove}
 use Rattle.lane_rule.specs.Begun.{begun}
 use Rattle.lane_rule.specs.Plays.{IsAt}

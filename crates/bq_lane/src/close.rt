@@ -94,9 +94,9 @@ pub fn close(closing: Closing, scratch: &mut Scratch) -> Next
     lose(closing, scratch)
 }
 
-// Whether a row was passed with so many to be marked behind it, the last of which was passed too where the stopper is the new
-// dummy.
-fn was_passed(behind: usize, stopped: bool) -> bool
+/// Whether a row was passed with so many to be marked behind it, the last of which was passed too where the stopper is the new
+/// dummy.
+pub fn was_passed(behind: usize, stopped: bool) -> bool
     ensures { result ≡ nat_lt 0 (to_pass behind stopped) }
 {
     0 < behind || stopped
@@ -151,8 +151,8 @@ pub fn mark_all(closing: Closing, stopped: bool, dummy: Place, scratch: &mut Scr
     }
 }
 
-// Puts a row into the retired list that has both marks now, or not.
-fn retire(row: u32, both: bool, scratch: &mut Scratch)
+/// Puts a row into the retired list that has both marks now, or not.
+pub fn retire(row: u32, both: bool, scratch: &mut Scratch)
     requires room { length scratch.old.retired.items < scratch.old.retired.capacity }
     ensures retired { (k : Caller) → keeping k scratch.new ≡ retires (keeping k scratch.old) row both }
     ensures same { SamePuts scratch.old scratch.new }

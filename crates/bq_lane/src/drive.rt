@@ -1,25 +1,36 @@
 // A command on the table, step by step: the machine's points, each made on the table's words, until the command ends. One
 // general step serves all points, so a new kind of step costs nothing here.
-ghost use Rattle.std.specs.Prelude.{◌≡◌, ℕ, ◌<◌, ◌≤◌, [], length};
+ghost use Rattle.std.specs.Prelude.{◌≡◌, ℕ, ◌<◌, ◌≤◌, [], ◌∷◌, length};
 ghost use Rattle.bq_model.specs.Values.{enqueued};
 ghost use Rattle.lane_steps.specs.Answers.{closing_answers};
 ghost use Rattle.lane_steps.specs.Close.{is_done};
 ghost use Rattle.lane_steps.specs.Functions.{Distinct};
+ghost use Rattle.lane_steps.specs.declared.point.Point.TheVariants.{Dequeue};
+ghost use Rattle.lane_steps.specs.declared.point.DequeuePoint.TheVariants.{LoadHead};
 ghost use Rattle.lane_rule.specs.Plays.{IsIdle};
 ghost use Rattle.bq_lane.specs.Applied.{Called};
 ghost use Rattle.bq_lane.specs.Running.{Agrees, Running, Ended, IsNext, begun_seat};
 ghost use Rattle.bq_lane.specs.Scratch.{Reserves, SameRoom, SamePuts};
 
+use crate::answer_way::read_answers;
+use crate::dequeue::{dequeue_first, dequeue_on};
+use crate::finish::finish_at;
+use crate::help_way::{help_found, help_on};
+use crate::many_way::dequeue_many;
 use crate::next::{Next, follow};
+use crate::put::{link, put_into};
 use crate::scratch::Scratch;
 use crate::seek::seek;
 use bq_model::{Answers, Op, Shape};
 use excess_count::pair;
 use lane_rule::{Command, Token, Words, first_step, step};
-use lane_steps::{Closing, Point, TakePoint};
+use lane_steps::{
+    AnswerPoint, Closing, DequeuePoint, EnqueuePoint, GuardPoint, Guarding, HelpPoint, Item, Point,
+    TakePoint, Taking,
+};
 use std::marker::Brand;
 
-// The next step of the running command, or all those of its search for a free row.
+// The next step of the running command, or all those of the way that it is on.
 fn advance(
     words: &Words,
     shape: &Shape,
@@ -35,6 +46,28 @@ fn advance(
     match point {
         Point::Take(taking, TakePoint::LoadMark { row, left }) => {
             seek(words, shape, caller, token, taking, row, left, scratch)
+        }
+        Point::Take(Taking::Enqueue(value), TakePoint::ClearMark { row }) => {
+            put_into(words, shape, caller, token, Item { row, value }, scratch)
+        }
+        Point::Enqueue(item, EnqueuePoint::LoadTail) => {
+            link(words, shape, caller, token, item, scratch)
+        }
+        Point::Dequeue(DequeuePoint::LoadHead) => dequeue_on(words, shape, caller, token, scratch),
+        Point::Close(closing, point) => {
+            finish_at(words, shape, caller, token, closing, point, scratch)
+        }
+        Point::Guard(Guarding::Help(help), GuardPoint::StoreHazard) => {
+            help_found(words, shape, caller, token, help, scratch)
+        }
+        Point::Guard(Guarding::Many(plan), GuardPoint::StoreHazard) => {
+            dequeue_many(words, shape, caller, token, &plan, scratch)
+        }
+        Point::Help(help, HelpPoint::LoadTail) => {
+            help_on(words, shape, caller, token, &help, scratch)
+        }
+        Point::Answer(AnswerPoint::LoadOldTail(help)) => {
+            read_answers(words, shape, caller, token, &help, scratch)
         }
         _ => {
             let found = step(words, shape, caller, token, point);
@@ -69,8 +102,8 @@ fn begin<C: Command>(
     follow(shape, caller, point, found, scratch)
 }
 
-// Writes the answers of a command of these operations that has ended so, in place of what `out` had. Gives whether it was done.
-fn answer(closing: Closing, ops: &[Op], values: &[u64], out: &mut Answers) -> bool
+/// Writes the answers of a command of these operations that has ended so, in place of what `out` had. Gives whether it was done.
+pub fn answer(closing: Closing, ops: &[Op], values: &[u64], out: &mut Answers) -> bool
     requires room { (0 < out.old.capacity) × (length ops.now ≤ out.old.capacity) }
     ensures done { result ≡ is_done closing }
     ensures answers { out.new.items ≡ closing_answers ops.now values.now closing }
@@ -93,9 +126,9 @@ fn answer(closing: Closing, ops: &[Op], values: &[u64], out: &mut Answers) -> bo
     }
 }
 
-// The running command, step by step to its end. Gives whether it was done. Each step leaves less of it: the rank of the lane
-// has risen, or fewer steps are left until it ends or begins again.
-fn drive(
+/// The running command, step by step to its end. Gives whether it was done. Each step leaves less of it: the rank of the lane
+/// has risen, or fewer steps are left until it ends or begins again.
+pub fn drive(
     words: &Words,
     shape: &Shape,
     caller: u32,
@@ -147,5 +180,33 @@ pub fn perform(
     match begin::<Brand>(words, shape, caller, token, first, ops, scratch) {
         Next::Goes(point) => drive(words, shape, caller, token, point, ops, scratch, out),
         Next::Ends(closing) => answer(closing, ops, scratch.values.as_slice(), out),
+    }
+}
+
+/// A dequeue of an idle caller, as a whole command. Gives whether it was done.
+pub fn perform_dequeue(
+    words: &Words,
+    shape: &Shape,
+    caller: u32,
+    token: &mut Token,
+    scratch: &mut Scratch,
+    out: &mut Answers,
+) -> bool
+    requires idle { IsIdle words.now.table_id words.now.key shape.now caller (Op.Deq ∷ []) (Dequeue LoadHead) token.old }
+    requires known { caller < shape.now.callers }
+    requires puts { scratch.old.puts.items ≡ [] }
+    requires agrees { (n : ℕ) → Agrees (begun_seat token.old n (Op.Deq ∷ [])).me.0.kept scratch.old }
+    requires reserves { Reserves shape.now scratch.old }
+    requires few { length token.old.me.0.kept.retired < shape.now.callers }
+    requires apart { Distinct token.old.me.0.kept.retired }
+    requires room { 1 ≤ out.old.capacity }
+    ensures called { Called token.old (Op.Deq ∷ []) out.new.items scratch.new token.new result }
+    ensures out { out.new.capacity ≡ out.old.capacity }
+    ensures room { SameRoom scratch.old scratch.new }
+{
+    let ops = [Op::Deq];
+    match dequeue_first::<Brand>(words, shape, caller, token, scratch) {
+        Next::Goes(point) => drive(words, shape, caller, token, point, &ops, scratch, out),
+        Next::Ends(closing) => answer(closing, &ops, scratch.values.as_slice(), out),
     }
 }

@@ -5,13 +5,14 @@ ghost use Rattle.bq_model.specs.declared.op.Op.{Op};
 ghost use Rattle.bq_model.specs.declared.op.Answer.{Answer};
 ghost use Rattle.bq_model.specs.Proper.{IsProper};
 ghost use Rattle.bq_model.specs.Grows.{the_caller, Grew, SawMore, AtSomePoint};
-ghost use Rattle.bq_model.specs.Rooms.{PassesAllowance};
-ghost use Rattle.bq_lane.specs.Rooms.{PassesRoom};
+ghost use Rattle.bq_model.specs.Rooms.{PassesAllowance, PassesRoom};
+ghost use Rattle.bq_model.specs.Values.{enqueued};
 
-use crate::drive::perform;
+use crate::drive::{perform, perform_dequeue};
+use crate::enqueue::enqueue;
 use crate::make::{make_passes, opening_words};
 use crate::pass::{Book, Pass, Seated};
-use crate::start::lay_out;
+use crate::start::{lay_out, lay_out_nothing};
 use atomic_table::Table;
 use bq_model::{Answer, Answers, Batch, Lane, Op, OutOfMemory, Refusal, Shape};
 use excess_count::count;
@@ -53,7 +54,7 @@ impl BqLane {
         ensures no_answers_when_refused { OnErr result (out.new.items ≡ []) }
         ensures capacity_stays { out.new.capacity ≡ out.old.capacity }
         ensures spent { IsErrOf result Refusal.Spent ↔ PassesAllowance self.now.shape seated.old.seen (the_caller seated.old.callers) ops.now }
-        ensures full { IsErrOf result Refusal.Full → AtSomePoint (λ point. PassesRoom self.now.shape point (the_caller seated.old.callers) ops.now) seated.old.seen seated.new.seen }
+        ensures full { IsErrOf result Refusal.Full → (0 < length (enqueued ops.now)) × AtSomePoint (λ point. PassesRoom self.now.shape point (the_caller seated.old.callers) ops.now) seated.old.seen seated.new.seen }
         ensures proper { IsProper self.now.shape.callers seated.new.seen }
         ensures pass_stays { (seated.new.table ≡ seated.old.table) × (seated.new.shape ≡ seated.old.shape) × (seated.new.callers ≡ seated.old.callers) }
     {
@@ -88,6 +89,42 @@ impl BqLane {
         seated.operated += operations;
         Ok(())
     }
+
+    // Makes a dequeue of the seat's one caller.
+    fn make_dequeue(&self, seated: &mut Seated, out: &mut Answers) -> Result<(), Refusal>
+        requires of_this_lane { (seated.old.table ≡ self.now.table) × (seated.old.shape ≡ self.now.shape) }
+        requires one_caller { length seated.old.callers ≡ 1 }
+        requires room_for_answers { 1 ≤ out.old.capacity }
+        ensures ok { OnOk result (Grew (the_caller seated.old.callers) (Op.Deq ∷ []) out.new.items seated.old.seen seated.new.seen) }
+        ensures refused { OnErr result (SawMore (the_caller seated.old.callers) seated.old.seen seated.new.seen) }
+        ensures spent_changes_nothing { IsErrOf result Refusal.Spent → seated.new ≡ seated.old }
+        ensures capacity_stays { out.new.capacity ≡ out.old.capacity }
+        ensures spent { IsErrOf result Refusal.Spent ↔ PassesAllowance self.now.shape seated.old.seen (the_caller seated.old.callers) (Op.Deq ∷ []) }
+        ensures never_full { ¬ IsErrOf result Refusal.Full }
+        ensures proper { IsProper self.now.shape.callers seated.new.seen }
+        ensures pass_stays { (seated.new.table ≡ seated.old.table) × (seated.new.shape ≡ seated.old.shape) × (seated.new.callers ≡ seated.old.callers) }
+    {
+        let operations = 1;
+        if seated.operated + operations > self.shape.allowance() {
+            return Err(Refusal::Spent);
+        }
+        lay_out_nothing(&mut seated.scratch);
+        let done = perform_dequeue(
+            &self.table.shared,
+            &self.shape,
+            seated.caller,
+            &mut seated.token,
+            &mut seated.scratch,
+            out,
+        );
+        if done {
+            seated.batches += 1;
+            seated.operated += operations;
+            Ok(())
+        } else {
+            Err(Refusal::Full)
+        }
+    }
 }
 
 impl Lane for BqLane {
@@ -110,8 +147,6 @@ impl Lane for BqLane {
     ghost seen = { λ pass. pass.seen };
 
     ghost history = { λ book. book };
-
-    ghost may_fill = { PassesRoom };
 
     fn make(alloc: Global, shape: &Shape) -> Result<(Self, Vec<Pass>), OutOfMemory> {
         let words = opening_words(alloc, shape)?;
@@ -145,7 +180,7 @@ impl Lane for BqLane {
         ensures no_answers_when_refused { OnErr result (out.new.items ≡ []) }
         ensures capacity_stays { out.new.capacity ≡ out.old.capacity }
         ensures spent { IsErrOf result Refusal.Spent ↔ PassesAllowance self.now.shape pass.old.seen (the_caller pass.old.callers) batch.now.items }
-        ensures full { IsErrOf result Refusal.Full → AtSomePoint (λ point. PassesRoom self.now.shape point (the_caller pass.old.callers) batch.now.items) pass.old.seen pass.new.seen }
+        ensures full { IsErrOf result Refusal.Full → (0 < length (enqueued batch.now.items)) × AtSomePoint (λ point. PassesRoom self.now.shape point (the_caller pass.old.callers) batch.now.items) pass.old.seen pass.new.seen }
         ensures proper { IsProper self.now.shape.callers pass.new.seen }
         ensures pass_stays { (pass.new.table ≡ pass.old.table) × (pass.new.shape ≡ pass.old.shape) × (pass.new.callers ≡ pass.old.callers) }
 
@@ -161,12 +196,18 @@ impl Lane for BqLane {
         ensures ok { OnOk result (Grew (the_caller pass.old.callers) (Op.Enq v ∷ []) (Answer.Done ∷ []) pass.old.seen pass.new.seen) }
         ensures refused { OnErr result (SawMore (the_caller pass.old.callers) pass.old.seen pass.new.seen) }
         ensures spent { IsErrOf result Refusal.Spent ↔ PassesAllowance self.now.shape pass.old.seen (the_caller pass.old.callers) (Op.Enq v ∷ []) }
-        ensures full { IsErrOf result Refusal.Full → AtSomePoint (λ point. PassesRoom self.now.shape point (the_caller pass.old.callers) (Op.Enq v ∷ [])) pass.old.seen pass.new.seen }
+        ensures full { IsErrOf result Refusal.Full → (0 < length (enqueued (Op.Enq v ∷ []))) × AtSomePoint (λ point. PassesRoom self.now.shape point (the_caller pass.old.callers) (Op.Enq v ∷ [])) pass.old.seen pass.new.seen }
         ensures proper { IsProper self.now.shape.callers pass.new.seen }
         ensures pass_stays { (pass.new.table ≡ pass.old.table) × (pass.new.shape ≡ pass.old.shape) × (pass.new.callers ≡ pass.old.callers) }
         ensures spent_changes_nothing { IsErrOf result Refusal.Spent → pass.new ≡ pass.old }
     {
-        self.make_ops(&mut pass.seated, &[Op::Enq(v)], &mut pass.answer)
+        enqueue(
+            &self.table.shared,
+            &self.shape,
+            &mut pass.seated,
+            v,
+            &mut pass.answer,
+        )
     }
 
     fn dequeue(&self, pass: &mut Pass) -> Result<Answer, Refusal>
@@ -180,7 +221,7 @@ impl Lane for BqLane {
         ensures pass_stays { (pass.new.table ≡ pass.old.table) × (pass.new.shape ≡ pass.old.shape) × (pass.new.callers ≡ pass.old.callers) }
         ensures spent_changes_nothing { IsErrOf result Refusal.Spent → pass.new ≡ pass.old }
     {
-        match self.make_ops(&mut pass.seated, &[Op::Deq], &mut pass.answer) {
+        match self.make_dequeue(&mut pass.seated, &mut pass.answer) {
             Ok(()) => Ok(pass.answer.get(0)),
             Err(refusal) => Err(refusal),
         }

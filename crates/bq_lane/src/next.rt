@@ -27,6 +27,7 @@ pub enum Next {
 }
 
 /// What comes after the step of this caller at this point that found this.
+#[inline(never)]
 pub fn follow(
     shape: &Shape,
     caller: u32,

@@ -29,8 +29,8 @@ pub fn remember(row: u32, value: u64, scratch: &mut Scratch)
     scratch.walked.push_back_reserved(row);
 }
 
-// The rows that were taken are linked, or not.
-fn leave(linked: bool, scratch: &mut Scratch)
+/// The rows that were taken are linked, or not.
+pub fn leave(linked: bool, scratch: &mut Scratch)
     ensures left { (k : Caller) → keeping k scratch.new ≡ record (keeping k scratch.old) { rows = rows_left linked scratch.old.rows.items } }
     ensures same { SamePuts scratch.old scratch.new }
 {

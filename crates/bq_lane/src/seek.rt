@@ -1,16 +1,55 @@
 // The search for a free row: one loop over the marks of the own rows of a kind.
+ghost use Rattle.std.specs.Prelude.{◌<◌, IfSome, IfNone};
+ghost use Rattle.lane_steps.specs.Step.{closes};
+ghost use Rattle.lane_steps.specs.declared.point.Closing.TheVariants.{Full};
 ghost use Rattle.lane_steps.specs.declared.point.Point.TheVariants.{Take};
-ghost use Rattle.lane_steps.specs.declared.point.TakePoint.TheVariants.{LoadMark};
+ghost use Rattle.lane_steps.specs.declared.point.TakePoint.TheVariants.{LoadMark, ClearMark};
+ghost use Rattle.lane_rule.specs.Goes.{left_of};
+ghost use Rattle.bq_lane.specs.Along.{Along};
+ghost use Rattle.bq_lane.specs.Led.{Led};
 ghost use Rattle.bq_lane.specs.Running.{Running, IsNext};
 ghost use Rattle.bq_lane.specs.Scratch.{SamePuts};
 
 use crate::close::close;
 use crate::next::Next;
+use crate::put::put;
 use crate::scratch::Scratch;
 use bq_model::Shape;
 use lane_rule::{Token, Words, load};
 use lane_steps::{Closing, Point, TakePoint, Taking, mark_in};
 use word_rows::Location;
+
+/// The loads of a search for a free row, from this one on, with so many behind it. Gives the row, where one is free.
+#[inline(always)]
+pub fn find(
+    words: &Words,
+    shape: &Shape,
+    caller: u32,
+    token: &mut Token,
+    taking: Taking,
+    first: u32,
+    behind: u32,
+    scratch: &Scratch,
+) -> Option<u32>
+    requires { Running words.now.table_id words.now.key shape.now caller (Take taking (LoadMark first behind)) scratch.now token.old }
+    ensures found { IfSome result (λ row. Along words.now.table_id words.now.key shape.now caller (Take taking (ClearMark row)) scratch.now token.old token.new) }
+    ensures less { IfSome result (λ _. left_of token.new.me.0 < left_of token.old.me.0) }
+    ensures lacks { IfNone result (Led words.now.table_id words.now.key shape.now caller (λ n k. closes n caller k Full) scratch.now token.old token.new) }
+{
+    let mut row = first;
+    let mut left = behind;
+    'rows: loop {
+        let found = load(words, shape, token, Location::Mark { row });
+        if mark_in(found).free {
+            return Some(row);
+        }
+        if left == 0 {
+            return None;
+        }
+        row += 1;
+        left -= 1;
+    }
+}
 
 /// The steps of a command that searches for a free row, from this one on, with so many behind it.
 pub fn seek(
@@ -27,17 +66,11 @@ pub fn seek(
     ensures next { IsNext words.now.table_id words.now.key shape.now caller scratch.new token.old token.new result }
     ensures same { SamePuts scratch.old scratch.new }
 {
-    let mut row = first;
-    let mut left = behind;
-    'rows: loop {
-        let found = load(words, shape, token, Location::Mark { row });
-        if mark_in(found).free {
-            return Next::Goes(Point::Take(taking, TakePoint::ClearMark { row }));
-        }
-        if left == 0 {
-            return close(Closing::Full, scratch);
-        }
-        row += 1;
-        left -= 1;
+    match taking {
+        Taking::Enqueue(value) => put(words, shape, caller, token, value, first, behind, scratch),
+        _ => match find(words, shape, caller, token, taking, first, behind, scratch) {
+            Some(row) => Next::Goes(Point::Take(taking, TakePoint::ClearMark { row })),
+            None => close(Closing::Full, scratch),
+        },
     }
 }

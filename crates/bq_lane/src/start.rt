@@ -48,3 +48,15 @@ pub fn lay_out(scratch: &mut Scratch, ops: &[Op])
     scratch.values.clear();
     scratch.walked.clear();
 }
+
+/// Lays out what a command at hand has that enqueues nothing, as it begins.
+pub fn lay_out_nothing(scratch: &mut Scratch)
+    ensures puts { scratch.new.puts.items ≡ [] }
+    ensures nothing_taken { (k : Caller) → keeping k scratch.new ≡ record (keeping k scratch.old) { rows = []; values = []; walked = [] } }
+    ensures room { SameRoom scratch.old scratch.new }
+{
+    scratch.puts.clear();
+    scratch.rows.clear();
+    scratch.values.clear();
+    scratch.walked.clear();
+}

@@ -37,7 +37,8 @@ fn own_items_alone_fill_a_lane(rt: HostRuntime) -> Result<(), Fail> {
     Ok(())
 }
 
-// Ten thousand batches of dequeues. Every second one finds one value, and takes a row that it links in the place of a chain.
+// Ten thousand batches of dequeues find the lane empty. As many others find one value, and take a row that they link in the
+// place of a chain.
 #[test]
 fn dequeues_alone_are_never_full(rt: HostRuntime) -> Result<(), Fail> {
     let shape = Shape::new(1, 8, 1, 100_000, 0).ok_or("no shape")?;
@@ -45,7 +46,7 @@ fn dequeues_alone_are_never_full(rt: HostRuntime) -> Result<(), Fail> {
     let (lane, mut pass) = alone(rt.alloc(), &shape)?;
     let four = [Op::Deq, Op::Deq, Op::Deq, Op::Deq];
     let empty = Answer::Empty;
-    for round in 0..5_000 {
+    for round in 0..10_000 {
         let answers = applied(rt.alloc(), &lane, &mut pass, &four)?.ok_or("refused")?;
         assert!(rt; answers.as_slice() == [empty; 4].as_slice());
         assert!(rt; lane.enqueue(&mut pass, round).is_ok());

@@ -9,7 +9,8 @@ ghost use Rattle.bq_model.specs.History.{operations};
 ghost use Rattle.bq_model.specs.Own.{mine};
 ghost use Rattle.bq_model.specs.Proper.{IsProper};
 ghost use Rattle.bq_model.specs.Grows.{the_caller, Grew, SawMore, AtSomePoint};
-ghost use Rattle.bq_model.specs.Rooms.{PassesAllowance};
+ghost use Rattle.bq_model.specs.Rooms.{PassesAllowance, PassesRoom};
+ghost use Rattle.bq_model.specs.Values.{enqueued};
 
 use crate::bounded::{Answers, Batch};
 use crate::error::{OutOfMemory, Refusal};
@@ -47,9 +48,6 @@ pub trait Lane: Send + Sync + Drop {
 
     ghost history: { Self.Book → List Group };
 
-    // On a lane of this shape with this history, these operations of the caller may be refused with Full.
-    ghost may_fill: { Shape → List Group → ℕ → List Op → Type 0 };
-
     /// An empty lane, and a pass for each of its callers, in the order of their numbers. It takes all memory that
     /// the lane and its passes ever need.
     fn make(alloc: Global, shape: &Shape) -> Result<(Self, Vec<Self::Pass>), OutOfMemory>
@@ -84,7 +82,7 @@ pub trait Lane: Send + Sync + Drop {
         ensures capacity_stays { out.new.capacity ≡ out.old.capacity }
         ensures spent { IsErrOf result Refusal.Spent ↔ PassesAllowance (lane_shape self.now) (seen pass.old) (the_caller (callers pass.old)) batch.now.items }
         ensures full { IsErrOf result Refusal.Full
-            → AtSomePoint (λ point. may_fill (lane_shape self.now) point (the_caller (callers pass.old)) batch.now.items) (seen pass.old) (seen pass.new) }
+            → (0 < length (enqueued batch.now.items)) × AtSomePoint (λ point. PassesRoom (lane_shape self.now) point (the_caller (callers pass.old)) batch.now.items) (seen pass.old) (seen pass.new) }
         ensures proper { IsProper (lane_shape self.now).callers (seen pass.new) }
         ensures pass_stays { (pass_identity pass.new ≡ pass_identity pass.old) × (pass_shape pass.new ≡ pass_shape pass.old) × (callers pass.new ≡ callers pass.old) };
 
@@ -96,7 +94,7 @@ pub trait Lane: Send + Sync + Drop {
         ensures refused { OnErr result (SawMore (the_caller (callers pass.old)) (seen pass.old) (seen pass.new)) }
         ensures spent { IsErrOf result Refusal.Spent ↔ PassesAllowance (lane_shape self.now) (seen pass.old) (the_caller (callers pass.old)) (Op.Enq v ∷ []) }
         ensures full { IsErrOf result Refusal.Full
-            → AtSomePoint (λ point. may_fill (lane_shape self.now) point (the_caller (callers pass.old)) (Op.Enq v ∷ [])) (seen pass.old) (seen pass.new) }
+            → (0 < length (enqueued (Op.Enq v ∷ []))) × AtSomePoint (λ point. PassesRoom (lane_shape self.now) point (the_caller (callers pass.old)) (Op.Enq v ∷ [])) (seen pass.old) (seen pass.new) }
         ensures proper { IsProper (lane_shape self.now).callers (seen pass.new) }
         ensures pass_stays { (pass_identity pass.new ≡ pass_identity pass.old) × (pass_shape pass.new ≡ pass_shape pass.old) × (callers pass.new ≡ callers pass.old) };
 

@@ -4,7 +4,8 @@ ghost use Rattle.bq_model.specs.declared.op.Op.{Op};
 ghost use Rattle.bq_model.specs.declared.op.Answer.{Answer};
 ghost use Rattle.bq_model.specs.Own.{mine};
 ghost use Rattle.bq_model.specs.Grows.{the_caller, Grew, SawMore, AtSomePoint};
-ghost use Rattle.bq_model.specs.Rooms.{PassesAllowance};
+ghost use Rattle.bq_model.specs.Rooms.{PassesAllowance, PassesRoom};
+ghost use Rattle.bq_model.specs.Values.{enqueued};
 ghost use Rattle.bq_session.specs.declared.future.Standing.TheVariants.{Pending, Kept, Withdrawn};
 
 use crate::claim::{Claim, Outcome};
@@ -146,7 +147,7 @@ impl<L: Lane> Session<L> {
         ensures refused { IfErr result (λ fault. (fault ≢ EvalFault.Withdrawn) → SawMore self.old.futures.caller (L.seen self.old.pass) (L.seen self.new.pass) × (self.new ≡ record self.old { pass = self.new.pass })) }
         ensures ticket_comes_back { IfErr result (λ fault. GivesBack fault ticket) }
         ensures spent { IsErrOf result (EvalFault.Spent ticket) ↔ (IsPending self.old.futures ticket × PassesAllowance (L.lane_shape lane.now) (L.seen self.old.pass) self.old.futures.caller self.old.pending) }
-        ensures full { IsErrOf result (EvalFault.Full ticket) → IsPending self.old.futures ticket × AtSomePoint (λ point. L.may_fill (L.lane_shape lane.now) point self.old.futures.caller self.old.pending) (L.seen self.old.pass) (L.seen self.new.pass) }
+        ensures full { IsErrOf result (EvalFault.Full ticket) → IsPending self.old.futures ticket × (0 < length (enqueued self.old.pending)) × AtSomePoint (λ point. PassesRoom (L.lane_shape lane.now) point self.old.futures.caller self.old.pending) (L.seen self.old.pass) (L.seen self.new.pass) }
         ensures claims { IfOk result (λ outcome. ClaimsOwn outcome (L.seen self.old.pass) self.old.futures (L.seen self.new.pass) self.new.futures) }
         ensures keeps { KeepsAnswers (L.seen self.new.pass) self.new.futures }
         ensures pass_stays { (L.pass_identity self.new.pass ≡ L.pass_identity self.old.pass) × (L.pass_shape self.new.pass ≡ L.pass_shape self.old.pass) × (L.callers self.new.pass ≡ L.callers self.old.pass) }
@@ -180,7 +181,7 @@ impl<L: Lane> Session<L> {
         ensures refused { OnErr result (SawMore self.old.futures.caller (L.seen self.old.pass) (L.seen self.new.pass)) }
         ensures all_stays_when_refused { OnErr result (self.new ≡ record self.old { pass = self.new.pass }) }
         ensures spent { IsErrOf result Refusal.Spent ↔ PassesAllowance (L.lane_shape lane.now) (L.seen self.old.pass) self.old.futures.caller self.old.pending }
-        ensures full { IsErrOf result Refusal.Full → AtSomePoint (λ point. L.may_fill (L.lane_shape lane.now) point self.old.futures.caller self.old.pending) (L.seen self.old.pass) (L.seen self.new.pass) }
+        ensures full { IsErrOf result Refusal.Full → (0 < length (enqueued self.old.pending)) × AtSomePoint (λ point. PassesRoom (L.lane_shape lane.now) point self.old.futures.caller self.old.pending) (L.seen self.old.pass) (L.seen self.new.pass) }
         ensures keeps { KeepsAnswers (L.seen self.new.pass) self.new.futures }
         ensures pass_stays { (L.pass_identity self.new.pass ≡ L.pass_identity self.old.pass) × (L.pass_shape self.new.pass ≡ L.pass_shape self.old.pass) × (L.callers self.new.pass ≡ L.callers self.old.pass) }
     {
@@ -228,7 +229,7 @@ impl<L: Lane> Session<L> {
         ensures spent { IsErrOf result PlainFault.Spent
             ↔ ((length self.old.pending < self.old.futures.batch) × PassesAllowance (L.lane_shape lane.now) (L.seen self.old.pass) self.old.futures.caller (self.old.pending ++ Op.Enq v ∷ [])) }
         ensures full { IsErrOf result PlainFault.Full
-            → AtSomePoint (λ point. L.may_fill (L.lane_shape lane.now) point self.old.futures.caller (self.old.pending ++ Op.Enq v ∷ [])) (L.seen self.old.pass) (L.seen self.new.pass) }
+            → (0 < length (enqueued (self.old.pending ++ Op.Enq v ∷ []))) × AtSomePoint (λ point. PassesRoom (L.lane_shape lane.now) point self.old.futures.caller (self.old.pending ++ Op.Enq v ∷ [])) (L.seen self.old.pass) (L.seen self.new.pass) }
         ensures keeps { KeepsAnswers (L.seen self.new.pass) self.new.futures }
         ensures pass_stays { (L.pass_identity self.new.pass ≡ L.pass_identity self.old.pass) × (L.pass_shape self.new.pass ≡ L.pass_shape self.old.pass) × (L.callers self.new.pass ≡ L.callers self.old.pass) }
     {
@@ -248,7 +249,7 @@ impl<L: Lane> Session<L> {
         ensures spent { IsErrOf result PlainFault.Spent
             ↔ ((length self.old.pending < self.old.futures.batch) × PassesAllowance (L.lane_shape lane.now) (L.seen self.old.pass) self.old.futures.caller (self.old.pending ++ Op.Deq ∷ [])) }
         ensures full { IsErrOf result PlainFault.Full
-            → AtSomePoint (λ point. L.may_fill (L.lane_shape lane.now) point self.old.futures.caller (self.old.pending ++ Op.Deq ∷ [])) (L.seen self.old.pass) (L.seen self.new.pass) }
+            → (0 < length (enqueued (self.old.pending ++ Op.Deq ∷ []))) × AtSomePoint (λ point. PassesRoom (L.lane_shape lane.now) point self.old.futures.caller (self.old.pending ++ Op.Deq ∷ [])) (L.seen self.old.pass) (L.seen self.new.pass) }
         ensures claims { IfOk result (λ outcome. ClaimsOwn outcome (L.seen self.old.pass) self.old.futures (L.seen self.new.pass) self.new.futures) }
         ensures keeps { KeepsAnswers (L.seen self.new.pass) self.new.futures }
         ensures pass_stays { (L.pass_identity self.new.pass ≡ L.pass_identity self.old.pass) × (L.pass_shape self.new.pass ≡ L.pass_shape self.old.pass) × (L.callers self.new.pass ≡ L.callers self.old.pass) }
@@ -268,7 +269,7 @@ impl<L: Lane> Session<L> {
         ensures spent { IsErrOf result PlainFault.Spent
             ↔ ((length self.old.pending < self.old.futures.batch) × PassesAllowance (L.lane_shape lane.now) (L.seen self.old.pass) self.old.futures.caller (self.old.pending ++ op ∷ [])) }
         ensures full { IsErrOf result PlainFault.Full
-            → AtSomePoint (λ point. L.may_fill (L.lane_shape lane.now) point self.old.futures.caller (self.old.pending ++ op ∷ [])) (L.seen self.old.pass) (L.seen self.new.pass) }
+            → (0 < length (enqueued (self.old.pending ++ op ∷ []))) × AtSomePoint (λ point. PassesRoom (L.lane_shape lane.now) point self.old.futures.caller (self.old.pending ++ op ∷ [])) (L.seen self.old.pass) (L.seen self.new.pass) }
         ensures claims { IfOk result (λ outcome. ClaimsOwn outcome (L.seen self.old.pass) self.old.futures (L.seen self.new.pass) self.new.futures) }
         ensures keeps { KeepsAnswers (L.seen self.new.pass) self.new.futures }
         ensures pass_stays { (L.pass_identity self.new.pass ≡ L.pass_identity self.old.pass) × (L.pass_shape self.new.pass ≡ L.pass_shape self.old.pass) × (L.callers self.new.pass ≡ L.callers self.old.pass) }
@@ -359,7 +360,7 @@ fn make_group<L: Lane>(
     ensures futures_stay_when_refused { OnErr result (futures.new ≡ futures.old) }
     ensures capacity_stays { answers.new.capacity ≡ answers.old.capacity }
     ensures spent { IsErrOf result Refusal.Spent ↔ PassesAllowance (L.lane_shape lane.now) (L.seen pass.old) futures.old.caller ops.now.items }
-    ensures full { IsErrOf result Refusal.Full → AtSomePoint (λ point. L.may_fill (L.lane_shape lane.now) point futures.old.caller ops.now.items) (L.seen pass.old) (L.seen pass.new) }
+    ensures full { IsErrOf result Refusal.Full → (0 < length (enqueued ops.now.items)) × AtSomePoint (λ point. PassesRoom (L.lane_shape lane.now) point futures.old.caller ops.now.items) (L.seen pass.old) (L.seen pass.new) }
     ensures pass_stays { (L.pass_identity pass.new ≡ L.pass_identity pass.old) × (L.pass_shape pass.new ≡ L.pass_shape pass.old) × (L.callers pass.new ≡ L.callers pass.old) }
 {
     let first = L::made(pass);

@@ -5,7 +5,6 @@ use bq_model::{MemorySink, MemorySource};
 use bulk_dispatcher::{Gate, NoGate};
 use std::alloc::{AllocError, Global};
 use std::process::Abort;
-use std::sync::Wait;
 use std::test::Fail;
 use std::thread::Threads;
 
@@ -72,12 +71,12 @@ fn streams(alloc: Global, case: &Case<'_>) -> Result<(MemorySource, MemorySink, 
     let writes = case.failing_writes.to_vec(alloc)?;
     let out = MemorySink::new(alloc, 1 << 20, case.write_piece.max(1), writes)?;
     let lines = case.failing_lines.to_vec(alloc)?;
-    let err = MemorySink::new(alloc, 1 << 10, 1000, lines)?;
+    let err = MemorySink::new(alloc, 1 << 10, case.write_piece.max(1), lines)?;
     Ok((source, out, err))
 }
 
 /// Makes the call, and demands that it leaves what it must.
-pub fn made<R: Threads + Wait + Abort + Sync>(
+pub fn made<R: Threads + Abort + Sync>(
     rt: &R,
     alloc: Global,
     case: &Case<'_>,
@@ -86,7 +85,7 @@ pub fn made<R: Threads + Wait + Abort + Sync>(
 }
 
 /// The same, with a gate that the hands pass.
-pub fn made_past<R: Threads + Wait + Abort + Sync, G: Gate>(
+pub fn made_past<R: Threads + Abort + Sync, G: Gate>(
     rt: &R,
     alloc: Global,
     case: &Case<'_>,

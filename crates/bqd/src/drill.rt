@@ -14,11 +14,10 @@ use bq_model::{Failed, Lane, OutOfMemory, Sink};
 use bulk_dispatcher::{Done, Gate};
 use job_text::generated;
 use std::alloc::Global;
-use std::sync::Wait;
 use std::thread::Threads;
 
 // Runs the file of so many jobs, and gives what that leaves and the line that tells of it.
-fn run_generated<L: Lane, G: Gate, R: Threads + Wait + Sync>(
+fn run_generated<L: Lane, G: Gate, R: Threads + Sync>(
     rt: &R,
     alloc: Global,
     jobs: u32,
@@ -39,7 +38,7 @@ fn run_generated<L: Lane, G: Gate, R: Threads + Wait + Sync>(
 }
 
 /// Runs the file of so many jobs by so many hands, and writes the line that tells of it, once all jobs were run.
-pub fn drill<L: Lane, O: Sink, G: Gate, R: Threads + Wait + Sync>(
+pub fn drill<L: Lane, O: Sink, G: Gate, R: Threads + Sync>(
     rt: &R,
     alloc: Global,
     jobs: u32,

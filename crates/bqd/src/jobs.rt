@@ -8,12 +8,11 @@ use bq_model::{Lane, OutOfMemory, Text};
 use bulk_dispatcher::{Done, Gate, run_hands};
 use job_text::JobFile;
 use std::alloc::Global;
-use std::sync::Wait;
 use std::thread::Threads;
 
 /// Runs the jobs of a file by so many hands, and gives what that leaves and the text of the replies. The file is given
 /// up before the text is made.
-pub fn run_jobs<L: Lane, G: Gate, R: Threads + Wait + Sync>(
+pub fn run_jobs<L: Lane, G: Gate, R: Threads + Sync>(
     rt: &R,
     alloc: Global,
     file: JobFile,

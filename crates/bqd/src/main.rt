@@ -13,6 +13,8 @@ mod drill;
 mod drill_line;
 mod ended;
 mod file;
+#[cfg(test)]
+mod hostile_tests;
 mod input;
 mod jobs;
 mod line;

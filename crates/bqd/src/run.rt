@@ -13,11 +13,10 @@ use bq_model::{Failed, Lane, Sink, Source};
 use bulk_dispatcher::{Done, Gate};
 use job_text::JobFile;
 use std::alloc::Global;
-use std::sync::Wait;
 use std::thread::Threads;
 
 // Runs the jobs of a file and writes their replies, none of them before all jobs were run.
-fn answer_file<L: Lane, O: Sink, G: Gate, R: Threads + Wait + Sync>(
+fn answer_file<L: Lane, O: Sink, G: Gate, R: Threads + Sync>(
     rt: &R,
     alloc: Global,
     file: JobFile,
@@ -41,7 +40,7 @@ fn answer_file<L: Lane, O: Sink, G: Gate, R: Threads + Wait + Sync>(
 }
 
 /// Runs the job file that the source has, by so many hands.
-pub fn run<L: Lane, S: Source, O: Sink, E: Sink, G: Gate, R: Threads + Wait + Sync>(
+pub fn run<L: Lane, S: Source, O: Sink, E: Sink, G: Gate, R: Threads + Sync>(
     rt: &R,
     alloc: Global,
     hands: u32,

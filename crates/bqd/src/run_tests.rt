@@ -64,12 +64,13 @@ fn files_of_every_form_have_one_text(rt: HostRuntime) -> Result<(), Fail> {
 }
 
 /// A file of eleven jobs in eight units on three lanes.
-const NIGHTLY: &[u8] =
+pub const NIGHTLY: &[u8] =
     b"bqjobs 1\n# nightly checks\n\njob 0 sum 10 20 30\nblock 1\nput digest 616263\n\
       put count 61 6162616361\nput words beta alpha beta\nend\njob 2 mix 7 0\nblock 0\n  put sum\n  put digest -\nend\n\
       job 1 count 00 -\njob 2 words one\njob 0 sum 18446744073709551615 1\njob 2 mix 0 2\n";
 
-const ELEVEN: &[u8] =
+/// The replies to it.
+pub const ELEVEN: &[u8] =
     b"0 60\n1 ba7816bf8f01cfea414140de5dae2223b00361a396177a9cb410ff61f20015ad\n2 3\n\
       3 alpha=1 beta=2\n4 7\n5 0\n\
       6 e3b0c44298fc1c149afbf4c8996fb92427ae41e4649b934ca495991b7852b855\n7 0\n8 one=1\n\

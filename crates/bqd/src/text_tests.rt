@@ -4,12 +4,11 @@ use bq_model::{MemorySink, MemorySource};
 use bulk_dispatcher::NoGate;
 use std::alloc::Global;
 use std::process::Abort;
-use std::sync::Wait;
 use std::test::Fail;
 use std::thread::Threads;
 
 /// Makes the call of one word, with an input that comes in pieces, and demands that it ends so.
-fn ends<R: Threads + Wait + Abort + Sync>(
+fn ends<R: Threads + Abort + Sync>(
     rt: &R,
     alloc: Global,
     word: &str,

@@ -15,12 +15,11 @@ use crate::still::still;
 use bq_model::{Lane, Sink, Source};
 use bulk_dispatcher::Gate;
 use std::alloc::Global;
-use std::sync::Wait;
 use std::thread::Threads;
 
 /// Does what the words after the program's name ask for, over these streams. No reply is written before all jobs were
 /// run. What a status says of the input's bytes it says where the source tells them.
-pub fn top<S: Source, O: Sink, E: Sink, G: Gate, R: Threads + Wait + Sync>(
+pub fn top<S: Source, O: Sink, E: Sink, G: Gate, R: Threads + Sync>(
     rt: &R,
     alloc: Global,
     words: &[String],

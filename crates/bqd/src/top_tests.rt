@@ -251,21 +251,3 @@ fn ten_thousand_sums_are_answered_in_order(rt: HostRuntime) -> Result<(), Fail> 
     made(&rt, rt.alloc(), &quiet_case(RUN, &input, 0, &wanted, b""))?;
     Ok(())
 }
-
-/// The header, and then zeros, so many bytes in all.
-fn long_text(alloc: Global, len: usize) -> Result<Vec<u8>, AllocError> {
-    let mut input = Vec::from_slice(alloc, b"bqjobs 1\n")?;
-    input.resize(len.max(input.len()), b'0')?;
-    Ok(input)
-}
-
-#[test]
-fn a_text_that_is_too_long_is_refused(rt: HostRuntime) -> Result<(), Fail> {
-    let input = long_text(rt.alloc(), 16_777_217)?;
-    let whole = Case {
-        read_piece: 1 << 20,
-        ..quiet_case(RUN, &input, 3, b"", b"bqd: line 0: too long\n")
-    };
-    made(&rt, rt.alloc(), &whole)?;
-    Ok(())
-}

@@ -1,5 +1,5 @@
 -- Two hands and one job: hand 0 puts it, hand 1 gets it.
-use Rattle.std.proofs.Common.{◌≡◌, List, [], ◌∷◌, refl, arith, inl}
+use Rattle.std.proofs.Common.{◌≡◌, List, [], ◌∷◌, refl, arith}
 use Rattle.std.proofs.lemmas.List.Elements.{All-from_recursion}
 use Rattle.bq_model.specs.declared.op.Op.TheVariants.{Enq, Deq}
 use Rattle.bq_model.specs.declared.group.Group.{Group}
@@ -40,7 +40,7 @@ hand_0 = record {
     stands = refl;
     whose = refl;
     last = refl;
-    dequeues = inl refl;
+    dequeues = refl;
     found = [];
     empty = refl;
   };
@@ -57,7 +57,7 @@ hand_1 = record {
     stands = refl;
     whose = refl;
     last = refl;
-    dequeues = inl refl;
+    dequeues = refl;
     found = [];
     empty = refl;
   };

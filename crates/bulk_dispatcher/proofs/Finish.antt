@@ -40,7 +40,7 @@ beside P [] (b ∷ bs) e h = absurd (omega (arith, e))
 beside P (n ∷ ns) [] e h = absurd (omega (arith, e))
 beside P (n ∷ ns) (b ∷ bs) e h = (All-head P b bs h, beside P ns bs (omega (arith, e)) (All-tail P b bs h))
 
-unseen : (c : ℕ) (ns : List ℕ) (row books : List (List Group)) → length ns ≡ length books → All (λ h. h ≡ []) row → AllZip (SawMore c) row books → AllZip (λ n book. mine book c ≡ []) ns books
+pub unseen : (c : ℕ) (ns : List ℕ) (row books : List (List Group)) → length ns ≡ length books → All (λ h. h ≡ []) row → AllZip (SawMore c) row books → AllZip (λ n book. mine book c ≡ []) ns books
 unseen c [] [] [] e none h = tt
 unseen c [] row (b ∷ books) e none h = absurd (omega (arith, e))
 unseen c [] (x ∷ row) [] e none h = absurd h

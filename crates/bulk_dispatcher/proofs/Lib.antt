@@ -29,3 +29,8 @@ pub mod Ranks
 pub mod Apart
 pub mod Rounds
 pub mod Finish
+pub mod Counts
+pub mod Owns
+pub mod Bounds
+pub mod Few
+pub mod Stopped

@@ -1,6 +1,7 @@
 -- What was read at a place, and what stands there afterwards.
-use Rattle.std.proofs.Common.{◌≡◌, ℕ, zero, suc, ◌<◌, List, [], ◌∷◌, length, map, get_or, set, refl, sym, ap, subst, ◌∙◌, arith, Result, Ok, Err, OnOk, IfOk}
+use Rattle.std.proofs.Common.{◌≡◌, ℕ, zero, suc, ◌<◌, List, [], ◌∷◌, length, map, get_or, set, refl, sym, ap, subst, ◌∙◌, arith, Result, Ok, Err, OnOk, IfOk, All}
 use Rattle.std.proofs.Math.Seq.{map-set_same}
+use Rattle.std.proofs.lemmas.List.Elements.{All-get_or}
 use Rattle.std.specs.List.{AllZip}
 use Rattle.bq_session.specs.Session.{SessionState}
 use Rattle.job_lanes.specs.Rest.{IsAtRest}
@@ -56,3 +57,11 @@ nothing_queued (x ∷ xs) e = absurd (omega (arith, e))
 pub if_ok_then : {T E : Type 0} {A B : T → Type 0} (r : Result T E) → ((x : T) → A x → B x) → IfOk r A → IfOk r B
 if_ok_then (Ok t) f h = f t h
 if_ok_then (Err e) f h = tt
+
+pub if_ok_both : {T E : Type 0} {A C : T → Type 0} {B : Type 0} (r : Result T E) → ((x : T) → A x → B → C x) → IfOk r A → OnOk r B → IfOk r C
+if_ok_both (Ok t) f h k = f t h k
+if_ok_both (Err e) f h k = tt
+
+-- what is so of each element is so of one that was looked up
+pub there : {X : Type 0} (P : X → Type 0) (xs : List X) (k : ℕ) (x : X) → k < length xs → x ≡ get_or xs k x → All P xs → P x
+there P xs k x l e h = subst P (sym e) (All-get_or P xs k x l h)

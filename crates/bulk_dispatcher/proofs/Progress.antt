@@ -1,5 +1,5 @@
 -- What a step on one lane does to what is told of all of them.
-use Rattle.std.proofs.Common.{◌≡◌, ◌≢◌, ℕ, suc, ◌+◌, ◌<◌, ◌≤◌, ◌==◌, ◌%◌, Bool, true, false, cond, List, [], ◌∷◌, ◌++◌, length, map, filter, get_or, All, Contains, refl, sym, ap, subst, ◌∙◌, arith, ne_eqb, eq-eqb, inl, inr}
+use Rattle.std.proofs.Common.{◌≡◌, ◌≢◌, ℕ, zero, suc, ◌+◌, ◌*◌, ◌<◌, ◌≤◌, ◌==◌, ◌%◌, Bool, true, false, cond, List, [], ◌∷◌, ◌++◌, length, length-append, map, filter, take, get_or, All, Contains, refl, sym, ap, subst, ◌∙◌, arith, ne_eqb, eq-eqb, inl, inr}
 use Rattle.std.specs.List.{AllZip, AllByRecursion, range_with_len}
 use Rattle.std.proofs.lemmas.List.{append-nil, get_or-set_other}
 use Rattle.std.proofs.lemmas.Grind.{get_or-set_at}
@@ -11,12 +11,14 @@ use Rattle.job_text.specs.JobFile.{job_count}
 use Rattle.bulk_dispatcher.specs.declared.reply.Reply.{Reply}
 use Rattle.bulk_dispatcher.specs.Books.{Numbered, Climbs}
 use Rattle.bulk_dispatcher.specs.Hands.{units_of, caught, replies_on, HandPut, HandDid, EndedEmpty, HasReplied, PutsUnit, EndsLane, OnOneLane, Answered}
+use Rattle.bulk_dispatcher.specs.Hands.{found_nothing_by}
+use Rattle.bulk_dispatcher.specs.Stops.{HandTried, MetSpent, HandStopped, NearlySpent}
 use Rattle.bulk_dispatcher.proofs.Units.{numbered_at, units_of-push}
 use Rattle.bulk_dispatcher.proofs.Updates.{zip_update, differ, of_lane, of_other, all_on_lane}
 use Rattle.bulk_dispatcher.proofs.Zips.{zip_at, zip_weaker, zip_length}
 
 abbrev pub HasPut : List JobUnit → ℕ → ℕ → ℕ → List Group → Type 0
-HasPut units hands c n h = HandPut (units_of units hands n c) c h
+HasPut units hands c n h = HandTried (units_of units hands n c) c h
 
 units_same : (before : List JobUnit) (unit : JobUnit) (hands n c : ℕ) → (cond (unit.lane == n) (cond (length before % hands == c) (numbered_at before unit ∷ []) []) [] ≡ []) → units_of (before ++ unit ∷ []) hands n c ≡ units_of before hands n c
 units_same before unit hands n c e = units_of-push before unit hands n c ∙ ap (λ us. units_of before hands n c ++ us) e ∙ append-nil (units_of before hands n c)
@@ -33,7 +35,14 @@ pub other_put : (before : List JobUnit) (unit : JobUnit) (hands c : ℕ) (lanes 
 other_put before unit hands c lanes seen other h =
     let off : (length before % hands == c) ≡ false = ne_eqb (length before % hands) c other in
     zip_weaker (HasPut before hands c) (HasPut (before ++ unit ∷ []) hands c)
-    (λ n x put. subst (λ us. HandPut us c x) (sym (units_same before unit hands n c (ap (λ b. cond (unit.lane == n) (cond b (numbered_at before unit ∷ []) []) []) off ∙ none_either (unit.lane == n)))) put) lanes seen h
+    (λ n x put. subst (λ us. HandTried us c x) (sym (units_same before unit hands n c (ap (λ b. cond (unit.lane == n) (cond b (numbered_at before unit ∷ []) []) []) off ∙ none_either (unit.lane == n)))) put) lanes seen h
+
+-- one unit more, and few dequeues more that found nothing
+tried_more : (units : List Numbered) (unit : Numbered) (first count c : ℕ) (old new : List Group) → unit.numbers ≡ range_with_len first count → PutsUnit first count c old new → HandTried units c old → HandTried (units ++ unit ∷ []) c new
+tried_more units unit first count c old new is puts tried = record {
+  put = puts.put units unit is tried.put;
+  few = let more = puts.few in let less = tried.few in let many = length-append units (unit ∷ []) in omega (arith, more, less, many);
+}
 
 -- a unit of this hand
 pub own_put : (before : List JobUnit) (unit : JobUnit) (hands c first count : ℕ) (lanes : List ℕ) (seen news : List (List Group)) (A : List Group → List Group → Type 0) → Climbs lanes → length before % hands ≡ c → first ≡ job_count before → count ≡ length unit.jobs
@@ -50,18 +59,21 @@ own_put before unit hands c first count lanes seen news A climb own begin many s
     (zip_update (HasPut before hands c) (HasPut (before ++ unit ∷ []) hands c) lanes seen step.place 0 step.seen step.within
     (λ j x l apart put.
     let off : (unit.lane == get_or lanes j 0) ≡ false = ne_eqb unit.lane (get_or lanes j 0) (λ e. differ lanes j step.place 0 climb l step.within apart (step.found ∙ e)) in
-    subst (λ us. HandPut us c x) (sym (units_same before unit hands (get_or lanes j 0) c (ap (λ b. cond b (cond (length before % hands == c) (number ∷ []) []) []) off))) put)
-    (subst (λ us. HandPut us c step.seen) (sym more)
-    (step.holds.0.put (units_of before hands (get_or lanes step.place 0) c) number (λ i. range_with_len (sym begin i) (sym many i)) (zip_at (HasPut before hands c) lanes seen step.place 0 [] h step.within))) h)
+    subst (λ us. HandTried us c x) (sym (units_same before unit hands (get_or lanes j 0) c (ap (λ b. cond b (cond (length before % hands == c) (number ∷ []) []) []) off))) put)
+    (subst (λ us. HandTried us c step.seen) (sym more) (put_once (units_of before hands (get_or lanes step.place 0) c) number (λ i. range_with_len (sym begin i) (sym many i)) (zip_at (HasPut before hands c) lanes seen step.place 0 [] h step.within))) h)
+  where
+    put_once : (units : List Numbered) (number : Numbered) → number.numbers ≡ range_with_len first count → HandTried units c (get_or seen step.place []) → HandTried (units ++ number ∷ []) c step.seen
+    put_once units number is tried = tried_more units number first count c (get_or seen step.place []) step.seen is step.holds.0 tried
 
-one_place : (lanes : List ℕ) (j k : ℕ) → Climbs lanes → j < length lanes → k < length lanes → get_or lanes j 0 ≡ get_or lanes k 0 → j ≡ k
+pub one_place : (lanes : List ℕ) (j k : ℕ) → Climbs lanes → j < length lanes → k < length lanes → get_or lanes j 0 ≡ get_or lanes k 0 → j ≡ k
 one_place lanes j k climb l m e = elim (cases_eq j k) [ inl same ↦ same | inr apart ↦ absurd (differ lanes j k 0 climb l m apart (sym e)) ]
 
 -- a lane is drained
 pub drained_next : (lanes : List ℕ) (seen news : List (List Group)) (batch c k : ℕ) (units : ℕ → List Numbered) (A : List Group → List Group → Type 0) → Climbs lanes → k < length lanes
     → OnOneLane (λ old new. EndsLane batch c old new × A old new) lanes (get_or lanes k 0) seen news → AllZip (λ n x. HandPut (units n) c x) lanes seen → ((j : ℕ) → j < k → EndedEmpty batch c (get_or seen j []))
-    → AllZip (λ n x. HandPut (units n) c x) lanes news × ((j : ℕ) → j < k + 1 → EndedEmpty batch c (get_or news j []))
-drained_next lanes seen news batch c k units A climb l step h ended =
+    → (most : ℕ) → ((j : ℕ) → k ≤ j → found_nothing_by (get_or seen j []) c ≤ most)
+    → AllZip (λ n x. HandPut (units n) c x) lanes news × ((j : ℕ) → j < k + 1 → EndedEmpty batch c (get_or news j [])) × ((j : ℕ) → k + 1 ≤ j → found_nothing_by (get_or news j []) c ≤ most)
+drained_next lanes seen news batch c k units A climb l step h ended most fresh =
     let place : step.place ≡ k = one_place lanes step.place k climb step.within l step.found in
     let did : HandDid (units (get_or lanes step.place 0)) batch c step.seen = step.holds.0.did (units (get_or lanes step.place 0)) (zip_at (λ n x. HandPut (units n) c x) lanes seen step.place 0 [] h step.within) in
     let put : HandPut (units (get_or lanes step.place 0)) c step.seen = record { put = did.put; together = did.together } in
@@ -71,6 +83,7 @@ drained_next lanes seen news batch c k units A climb l step h ended =
         | inl same ↦ subst (EndedEmpty batch c) (sym (ap (λ hs. get_or hs j []) step.changed ∙ get_or-set_at seen step.place j step.seen [] same (let w = step.within in omega (arith, w, many)))) did.ended
         | inr apart ↦ subst (EndedEmpty batch c) (sym (ap (λ hs. get_or hs j []) step.changed ∙ get_or-set_other seen step.place j step.seen [] apart)) (ended j (let w = apart in let e = place in grind arith))
       ],
+      λ j m. subst (λ x. found_nothing_by x c ≤ most) (sym (ap (λ hs. get_or hs j []) step.changed ∙ get_or-set_other seen step.place j step.seen [] (λ e. absurd (omega (arith, e, place, m))))) (fresh j (omega (arith, m))),
     )
 
 -- where every lane is drained, the hand is done
@@ -120,13 +133,13 @@ answered_next file lanes lane c seen news before after A climb step h =
     weaker P Q f (x ∷ xs) h = (f x h.0, weaker P Q f xs h.1)
 
 -- a hand that has seen nothing
-pub start_put : {S : Type 0} (R : ℕ → S → Type 0) (f : S → List Group) (c : ℕ) (lanes : List ℕ) (xs : List S) → AllZip R lanes xs → All (λ s. f s ≡ []) xs → AllZip (λ n x. HandPut [] c x) lanes (map f xs)
+pub start_put : {S : Type 0} (R : ℕ → S → Type 0) (f : S → List Group) (c : ℕ) (lanes : List ℕ) (xs : List S) → AllZip R lanes xs → All (λ s. f s ≡ []) xs → AllZip (λ n x. HandTried [] c x) lanes (map f xs)
 start_put R f c [] [] h none = tt
 start_put R f c [] (x ∷ xs) h none = absurd h
 start_put R f c (n ∷ lanes) [] h none = absurd h
 start_put R f c (n ∷ lanes) (x ∷ xs) h none =
     let empty : List Group = [] in
-    (subst (HandPut [] c) (sym (All-head (λ s. f s ≡ []) x xs none)) (record { put = refl; together = All-nil _ }), start_put R f c lanes xs h.1 (All-tail (λ s. f s ≡ []) x xs none))
+    (subst (HandTried [] c) (sym (All-head (λ s. f s ≡ []) x xs none)) (record { put = record { put = refl; together = All-nil _ }; few = omega arith }), start_put R f c lanes xs h.1 (All-tail (λ s. f s ≡ []) x xs none))
 
 start_caught : {S : Type 0} (R : ℕ → S → Type 0) (f : S → List Group) (file : List JobUnit) (c : ℕ) (lanes : List ℕ) (xs : List S) → AllZip R lanes xs → All (λ s. f s ≡ []) xs → AllZip (λ n x. [] ≡ replies_on file n c x) lanes (map f xs)
 start_caught R f file c [] [] h none = tt
@@ -137,3 +150,32 @@ start_caught R f file c (n ∷ lanes) (x ∷ xs) h none =
 
 pub start_replied : {S : Type 0} (R : ℕ → S → Type 0) (f : S → List Group) (file : List JobUnit) (c : ℕ) (lanes : List ℕ) (xs : List S) (replies : List Reply) → replies ≡ [] → AllZip R lanes xs → All (λ s. f s ≡ []) xs → HasReplied file lanes c (map f xs) replies
 start_replied R f file c lanes xs replies e h none = subst (HasReplied file lanes c (map f xs)) (sym e) (record { replied = start_caught R f file c lanes xs h none; on_lanes = All-nil _ })
+
+-- The lanes of a hand that has put its units, as far as it is before it takes what is left.
+pub put_of_tried : (lanes : List ℕ) (seen : List (List Group)) (c : ℕ) (units : ℕ → List Numbered) → AllZip (λ n x. HandTried (units n) c x) lanes seen → AllZip (λ n x. HandPut (units n) c x) lanes seen
+put_of_tried lanes seen c units h = zip_weaker (λ n x. HandTried (units n) c x) (λ n x. HandPut (units n) c x) (λ n x t. t.put) lanes seen h
+
+pub few_of_tried : (lanes : List ℕ) (seen : List (List Group)) (c most : ℕ) (units : ℕ → List Numbered) → ((n : ℕ) → length (units n) ≤ most) → AllZip (λ n x. HandTried (units n) c x) lanes seen → (j : ℕ) → found_nothing_by (get_or seen j []) c ≤ 256 * most
+few_of_tried [] [] c most units short h j = omega arith
+few_of_tried [] (x ∷ seen) c most units short h j = absurd h
+few_of_tried (n ∷ lanes) [] c most units short h j = absurd h
+few_of_tried (n ∷ lanes) (x ∷ seen) c most units short h zero = let few = h.0.few in let less = short n in omega (arith, few, less)
+few_of_tried (n ∷ lanes) (x ∷ seen) c most units short h (suc j) = few_of_tried lanes seen c most units short h.1 j
+
+-- A hand stopped on one lane.
+pub stopped_at : (file : List JobUnit) (lanes : List ℕ) (lane hands c place : ℕ) (seen news : List (List Group)) (A : List Group → List Group → Type 0) → (step : OnOneLane (λ old new. MetSpent c old new × A old new) lanes lane seen news)
+    → AllZip (λ n x. HandPut (units_of (take place file) hands n c) c x) lanes seen → found_nothing_by (get_or seen step.place []) c ≤ 256 * length file → HandStopped lanes file hands c news
+stopped_at file lanes lane hands c place seen news A step h few =
+    let many = zip_length (λ n x. HandPut (units_of (take place file) hands n c) c x) lanes seen h in
+    let met = step.holds.0 in
+    let here : get_or news step.place [] ≡ step.seen = ap (λ hs. get_or hs step.place []) step.changed ∙ get_or-set_at seen step.place step.place step.seen [] refl (let w = step.within in omega (arith, w, many)) in
+    record {
+      place = place;
+      put = subst (AllZip (λ n x. HandPut (units_of (take place file) hands n c) c x) lanes) (sym step.changed)
+          (zip_update (λ n x. HandPut (units_of (take place file) hands n c) c x) (λ n x. HandPut (units_of (take place file) hands n c) c x) lanes seen step.place 0 step.seen step.within (λ j x m apart p. p)
+          (met.put (units_of (take place file) hands (get_or lanes step.place 0) c) (zip_at (λ n x. HandPut (units_of (take place file) hands n c) c x) lanes seen step.place 0 [] h step.within)) h);
+      at = step.place;
+      within = step.within;
+      few = subst (λ x. found_nothing_by x c ≤ 256 * length file + 256) (sym here) (let more = met.few in omega (arith, more, few));
+      spent = subst (NearlySpent c) (sym here) met.spent;
+    }

@@ -1,5 +1,5 @@
 -- What rounds come to, one after another.
-use Rattle.std.proofs.Common.{◌≡◌, ℕ, ◌+◌, Bool, true, false, List, [], ◌∷◌, ◌++◌, ◌<◌, ◌≤◌, ◌⊎◌, replicate, length, Some, None, Option, MatchOption, is_some, refl, sym, ap, subst, ◌∙◌, arith, append_assoc, inl, inr}
+use Rattle.std.proofs.Common.{◌≡◌, ℕ, ◌+◌, ◌-◌, Bool, true, false, List, [], ◌∷◌, ◌++◌, ◌<◌, ◌≤◌, replicate, length, Some, None, Option, MatchOption, is_some, refl, sym, ap, subst, ◌∙◌, arith, append_assoc}
 use Rattle.std.specs.List.{filter_map, cons_option, AllZip, range_with_len}
 use Rattle.std.proofs.lemmas.List.{append-nil, length-replicate}
 use Rattle.std.proofs.lemmas.List.Elements.{filter_map-append}
@@ -18,7 +18,7 @@ use Rattle.bq_session.specs.Session.{SessionState}
 use Rattle.bq_session.specs.Outcome.{made_by}
 use Rattle.bq_session.specs.Futures.{Stands, live_count, spent}
 use Rattle.hand_tickets.specs.Holds.{Holds, HoldsPending, all_kept, some_withdrawn}
-use Rattle.hand_tickets.proofs.Holding.{held-spent}
+use Rattle.hand_tickets.proofs.Holding.{held-spent, held-same}
 use Rattle.job_lanes.specs.Rest.{IsAtRest}
 use Rattle.job_text.specs.declared.file.Unit.{Unit as JobUnit}
 use Rattle.job_text.specs.JobFile.{job_at, job_count}
@@ -28,8 +28,15 @@ use Rattle.bq_session.specs.declared.claim.Outcome.TheVariants as outcome
 use Rattle.bulk_dispatcher.specs.declared.reply.Reply.{Reply}
 use Rattle.bulk_dispatcher.specs.Books.{Numbered}
 use Rattle.bulk_dispatcher.specs.Hands.{Catch, caught, caught_from, reply_for, replies_on, new_replies, Answered, PutsUnit, EndsLane}
-use Rattle.bulk_dispatcher.specs.Rounds.{replies_to, found_nothing, is_empty, ends_empty, RoundMade, PutsNothing, LaneRound}
+use Rattle.bulk_dispatcher.specs.Rounds.{replies_to, found_nothing, is_empty, ends_empty, RoundMade, PutsNothing}
 use Rattle.bulk_dispatcher.specs.UnitOps.{unit_ops}
+use Rattle.bq_model.specs.declared.shape.Shape.{Shape}
+use Rattle.bq_model.specs.Rooms.{PassesAllowance}
+use Rattle.bulk_dispatcher.specs.declared.round.Round.{Round}
+use Rattle.bulk_dispatcher.specs.Hands.{found_nothing_by}
+use Rattle.bulk_dispatcher.specs.Rounds.{RoundCame}
+use Rattle.bulk_dispatcher.specs.Stops.{Serves, MetSpent}
+use Rattle.bulk_dispatcher.proofs.Few.{Tries, tries-most, found_at_most, unit_short, found-saw_more, nearly_spent, made-saw_more, made-grew}
 use Rattle.bulk_dispatcher.proofs.Steps.{caught-grew, caught-saw_more, HandPut-other, HandPut-unit, HandPut-saw_more, HandDid-ends, values_of_deqs}
 use Rattle.bulk_dispatcher.proofs.Zips.{zip_length}
 use Rattle.bq_session.proofs.Names.{length-grew}
@@ -77,12 +84,13 @@ nothing_put-saw_more c one two three h s = record { put = λ units p. HandPut-sa
 pub nothing_put-grew : (c : ℕ) (ops : List Op) (answers : List Answer) (one two three : List Group) → PutsNothing c one two → enqueued ops ≡ [] → Grew c ops answers two three → PutsNothing c one three
 nothing_put-grew c ops answers one two three h none g = record { put = λ units p. HandPut-other units c ops answers two three none g (h.put units p) }
 
-pub unit_put : (c first count : ℕ) (ops : List Op) (answers : List Answer) (one two three : List Group) → PutsNothing c one two → ((unit : Numbered) → unit.numbers ≡ range_with_len first count → ops ≡ unit_ops unit.numbers) → Grew c ops answers two three → PutsUnit first count c one three
-unit_put c first count ops answers one two three h is g = record {
+pub unit_put : (c first count : ℕ) (ops : List Op) (answers : List Answer) (one two three : List Group) → found_nothing_by three c ≤ found_nothing_by one c + 256 → PutsNothing c one two → ((unit : Numbered) → unit.numbers ≡ range_with_len first count → ops ≡ unit_ops unit.numbers) → Grew c ops answers two three → PutsUnit first count c one three
+unit_put c first count ops answers one two three few h is g = record {
+  few = few;
   put = λ units unit e p. HandPut-unit units unit c answers two three (subst (λ (os : List Op). Grew c os answers two three) (is unit e) g) (h.put units p);
 }
 
-pub lane_ended : (batch c : ℕ) (ops : List Op) (answers found : List Answer) (one two three : List Group) → PutsNothing c one two → (ops ≡ replicate batch Deq) ⊎ (ops ≡ Deq ∷ []) → answers ≡ found ++ Empty ∷ [] → Grew c ops answers two three → EndsLane batch c one three
+pub lane_ended : (batch c : ℕ) (ops : List Op) (answers found : List Answer) (one two three : List Group) → PutsNothing c one two → ops ≡ replicate batch Deq → answers ≡ found ++ Empty ∷ [] → Grew c ops answers two three → EndsLane batch c one three
 lane_ended batch c ops answers found one two three h which e g = record { did = λ units p. HandDid-ends units batch c ops answers found two three which e g (h.put units p) }
 
 -- Answered
@@ -187,11 +195,11 @@ pub round_of : (file : List JobUnit) (lane c d e : ℕ) (ops wanted : List Op) (
 round_of file lane c d e ops wanted seen now before after empty r p q o =
     subst (λ n. RoundMade file n c wanted seen now before after empty) p (subst (λ n. RoundMade file d n wanted seen now before after empty) q (subst (λ os. RoundMade file d e os seen now before after empty) o r))
 
--- a batch of dequeues, or one
+-- a batch of dequeues puts no value
 pub dequeues_none : (batch : ℕ) → enqueued (replicate batch Deq) ≡ []
 dequeues_none batch = values_of_deqs batch
 
-pub round_ends : (file : List JobUnit) (lane batch c : ℕ) (ops : List Op) (one two three : List Group) (before after : List Reply) (empty : Bool) → 0 < length ops → PutsNothing c one two → (ops ≡ replicate batch Deq) ⊎ (ops ≡ Deq ∷ []) → empty ≡ true → RoundMade file lane c ops two three before after empty → EndsLane batch c one three
+pub round_ends : (file : List JobUnit) (lane batch c : ℕ) (ops : List Op) (one two three : List Group) (before after : List Reply) (empty : Bool) → 0 < length ops → PutsNothing c one two → ops ≡ replicate batch Deq → empty ≡ true → RoundMade file lane c ops two three before after empty → EndsLane batch c one three
 round_ends file lane batch c ops one two three before after empty some h which e r = go r.answers r.made (length-grew c ops r.answers two three r.made) (sym r.ended ∙ e)
   where
     go : (answers : List Answer) → Grew c ops answers two three → length answers ≡ length ops → ends_empty false answers ≡ true → EndsLane batch c one three
@@ -233,32 +241,52 @@ answered_round file lane c ops one two three before mid after empty h r = answer
 pub nothing_round : (file : List JobUnit) (lane c : ℕ) (ops : List Op) (one two three : List Group) (before after : List Reply) (empty : Bool) → PutsNothing c one two → enqueued ops ≡ [] → RoundMade file lane c ops two three before after empty → PutsNothing c one three
 nothing_round file lane c ops one two three before after empty h none r = nothing_put-grew c ops r.answers one two three h none r.made
 
-pub unit_round : (file : List JobUnit) (lane c first count : ℕ) (one two three : List Group) (before after : List Reply) (empty : Bool) → PutsNothing c one two → RoundMade file lane c (unit_ops (range_with_len first count)) two three before after empty → PutsUnit first count c one three
-unit_round file lane c first count one two three before after empty h r = unit_put c first count (unit_ops (range_with_len first count)) r.answers one two three h (λ unit e. ap unit_ops (sym e)) r.made
+pub unit_round : (file : List JobUnit) (lane c first count : ℕ) (one two three : List Group) (before after : List Reply) (empty : Bool) → count ≤ 100 → Tries c one two → PutsNothing c one two → RoundMade file lane c (unit_ops (range_with_len first count)) two three before after empty → PutsUnit first count c one three
+unit_round file lane c first count one two three before after empty small tries h r =
+    let ops = unit_ops (range_with_len first count) in
+    let most = tries-most c one two tries in
+    let more = found_at_most c ops r.answers two three r.made in
+    let short = unit_short first count small in
+    unit_put c first count ops r.answers one two three (omega (arith, most, more, short)) h (λ unit e. ap unit_ops (sym e)) r.made
 
-some_dequeue : (batch : ℕ) (ops : List Op) → 0 < batch → (ops ≡ replicate batch Deq) ⊎ (ops ≡ Deq ∷ []) → 0 < length ops
-some_dequeue batch ops l (inl many) = let n = ap length many ∙ length-replicate batch Deq in omega (arith, n, l)
-some_dequeue batch ops l (inr one) = let n = ap length one in omega (arith, n)
+-- what a round with a batch of dequeues does
+pub batch_ends : (file : List JobUnit) (lane batch c : ℕ) (one two three : List Group) (before after : List Reply) (empty : Bool) → 0 < batch → PutsNothing c one two → empty ≡ true → RoundMade file lane c (replicate batch Deq) two three before after empty → EndsLane batch c one three
+batch_ends file lane batch c one two three before after empty l h e r =
+    round_ends file lane batch c (replicate batch Deq) one two three before after empty (let n = length-replicate batch Deq in omega (arith, n, l)) h refl e r
 
-no_enqueue : (batch : ℕ) (ops : List Op) → (ops ≡ replicate batch Deq) ⊎ (ops ≡ Deq ∷ []) → enqueued ops ≡ []
-no_enqueue batch ops (inl many) = ap enqueued many ∙ values_of_deqs batch
-no_enqueue batch ops (inr one) = ap enqueued one
-
-pub lane_round_ends : (file : List JobUnit) (lane batch c : ℕ) (one two three : List Group) (before after : List Reply) (empty : Bool) → 0 < batch → PutsNothing c one two → empty ≡ true → LaneRound file lane batch c two three before after empty → EndsLane batch c one three
-lane_round_ends file lane batch c one two three before after empty l h e r =
-    round_ends file lane batch c r.ops one r.middle three before after empty (some_dequeue batch r.ops l r.dequeues) (nothing_put-saw_more c one two r.middle h r.more) r.dequeues e r.round
-
-pub lane_round_puts : (file : List JobUnit) (lane batch c : ℕ) (one two three : List Group) (before after : List Reply) (empty : Bool) → PutsNothing c one two → LaneRound file lane batch c two three before after empty → PutsNothing c one three
-lane_round_puts file lane batch c one two three before after empty h r = nothing_round file lane c r.ops one r.middle three before after empty (nothing_put-saw_more c one two r.middle h r.more) (no_enqueue batch r.ops r.dequeues) r.round
-
-pub lane_round_answers : (file : List JobUnit) (lane batch c : ℕ) (one two three : List Group) (before mid after : List Reply) (empty : Bool) → Answered file lane c one two before mid → LaneRound file lane batch c two three mid after empty → Answered file lane c one three before after
-lane_round_answers file lane batch c one two three before mid after empty h r = answered_round file lane c r.ops one r.middle three before mid after empty (answered-saw_more file lane c one two r.middle before mid h r.more) r.round
-
-pub lane_round_as : (file : List JobUnit) (lane batch c d e : ℕ) (seen now : List Group) (before after : List Reply) (empty : Bool) → LaneRound file d batch e seen now before after empty → d ≡ lane → e ≡ c → LaneRound file lane batch c seen now before after empty
-lane_round_as file lane batch c d e seen now before after empty r p q = subst (λ n. LaneRound file n batch c seen now before after empty) p (subst (λ n. LaneRound file d batch n seen now before after empty) q r)
+-- from a round to that of the hand's lane
+pub round_as : (file : List JobUnit) (lane c d e : ℕ) (ops : List Op) (seen now : List Group) (before after : List Reply) (empty : Bool) → RoundMade file d e ops seen now before after empty → d ≡ lane → e ≡ c → RoundMade file lane c ops seen now before after empty
+round_as file lane c d e ops seen now before after empty r p q = round_of file lane c d e ops ops seen now before after empty r p q refl
 
 pub at_some : (A : Bool → Type 0) (B : Type 0) (r : Option Bool) (b : Bool) → r ≡ Some b → MatchOption r B A → A b
 at_some A B r b e h = subst (λ o. MatchOption o B A) e h
 
 pub at_none : (A : Bool → Type 0) (B : Type 0) (r : Option Bool) → r ≡ None → MatchOption r B A → B
 at_none A B r e h = subst (λ o. MatchOption o B A) e h
+
+-- what a round came to, on a session that goes on from what was seen
+pub came_from : (shape : Shape) (file : List JobUnit) (lane c d e : ℕ) (ops wanted : List Op) (saw seen now : List Group) (before after : List Reply) (came r : Round) → RoundCame shape file d e ops saw now before after came
+    → d ≡ lane → e ≡ c → ops ≡ wanted → saw ≡ seen → came ≡ r → RoundCame shape file lane c wanted seen now before after r
+came_from shape file lane c d e ops wanted saw seen now before after came r h p q o s same =
+    subst (λ n. RoundCame shape file n c wanted seen now before after r) p (subst (λ n. RoundCame shape file d n wanted seen now before after r) q
+    (subst (λ os. RoundCame shape file d e os seen now before after r) o (subst (λ h. RoundCame shape file d e ops h now before after r) s (subst (λ x. RoundCame shape file d e ops saw now before after x) same h))))
+
+-- a hand that was refused with Spent stops
+pub met_try : (shape : Shape) (c : ℕ) (ops : List Op) (one two three : List Group) → Serves shape → length ops ≤ 256 → PutsNothing c one two → Tries c one two → SawMore c two three → PassesAllowance shape two c ops → MetSpent c one three
+met_try shape c ops one two three serves short h tries s passes = record {
+  put = (nothing_put-saw_more c one two three h s).put;
+  few = let most = tries-most c one two tries in let same = found-saw_more c two three s in omega (arith, most, same);
+  spent = nearly_spent shape c ops two three serves short s passes;
+}
+
+-- a round leaves less of the allowance
+pub less_left : (allowance c : ℕ) (ops : List Op) (answers : List Answer) (one two three : List Group) → SawMore c one two → Grew c ops answers two three → 0 < length ops → made_by two c + length ops ≤ allowance → allowance - made_by three c < allowance - made_by one c
+less_left allowance c ops answers one two three s g some within =
+    let same = made-saw_more c one two s in
+    let more = made-grew c ops answers two three g in
+    omega (arith, same, more, some, within)
+
+-- what is held stays where the lane refused
+pub still_pending : {P : Type 0} {n c : ℕ} {ops : List Op} (t u : Ticket) (ts : List Ticket) (old new : SessionState P) → HoldsPending n c ops (t ∷ ts) old → new ≡ record old { pass = new.pass } → u ≡ t → HoldsPending new.futures.lane new.futures.caller new.pending (u ∷ ts) new
+still_pending {n = n} {c = c} {ops = ops} t u ts old new h e same =
+    pending_own new (subst (λ (v : Ticket). HoldsPending n c ops (v ∷ ts) new) (sym same) (held-same old new h (ap (λ (s : SessionState _). s.pending) e) (ap (λ (s : SessionState _). s.futures) e)))

@@ -1,5 +1,5 @@
 -- One call of a hand, and what it did so far.
-use Rattle.std.proofs.Common.{◌≡◌, ℕ, zero, suc, ◌+◌, ◌⊎◌, cond, List, [], ◌∷◌, ◌++◌, length, map, replicate, ◌/◌, refl, sym, ap, subst, ◌∙◌, arith, ne_eqb, length-append, add-zero, zero-add, All, Contains, inl, inr}
+use Rattle.std.proofs.Common.{◌≡◌, ℕ, zero, suc, ◌+◌, cond, List, [], ◌∷◌, ◌++◌, length, map, replicate, ◌/◌, refl, sym, ap, subst, ◌∙◌, arith, ne_eqb, length-append, add-zero, zero-add, All, Contains, inl, inr}
 use Rattle.std.specs.List.{flat_map}
 use Rattle.std.proofs.lemmas.Bool.{cases_eq}
 use Rattle.std.proofs.lemmas.Grind.{flat_map-append}
@@ -44,9 +44,9 @@ caught_from-append n (Done ∷ xs) ys = caught_from-append (n + 1) xs ys ∙ ap 
 caught_from-append n (Got v ∷ xs) ys = ap (λ cs. record { serial = n; value = v } ∷ cs) (caught_from-append (n + 1) xs ys ∙ ap (λ k. caught_from (n + 1) xs ++ caught_from k ys) (omega arith))
 caught_from-append n (Empty ∷ xs) ys = caught_from-append (n + 1) xs ys ∙ ap (λ k. caught_from (n + 1) xs ++ caught_from k ys) (omega arith)
 
--- What a caller caught grows by what its group caught.
-pub caught-grew : (c : ℕ) (ops : List Op) (answers : List Answer) (old new : List Group) → Grew c ops answers old new → caught new c ≡ caught old c ++ caught_from (length (operations (mine old c))) answers
-caught-grew c ops answers old new g =
+-- The answers to a caller grow by those to its group.
+pub answers_to-grew : (c : ℕ) (ops : List Op) (answers : List Answer) (old new : List Group) → Grew c ops answers old new → answers_to new c ≡ answers_to old c ++ answers
+answers_to-grew c ops answers old new g =
     let around = others_around c ops answers old new g in
     let before : answers_to (old ++ g.between) c ≡ answers_to old c =
     answers_to-append old g.between c ∙ ap (λ xs. answers_to old c ++ xs) (answers_in-none (last_queue old) g.between c around.0) ∙ append-nil (answers_to old c) in
@@ -54,10 +54,13 @@ caught-grew c ops answers old new g =
     answers_in-own (last_queue (old ++ g.between)) (next_group old c ops) g.after c refl
     ∙ ap (λ xs. answers_from (last_queue (old ++ g.between)) ops ++ xs) (answers_in-none (queue_from (last_queue (old ++ g.between)) ops) g.after c around.1)
     ∙ append-nil (answers_from (last_queue (old ++ g.between)) ops) ∙ sym g.answered in
-    let all : answers_to new c ≡ answers_to old c ++ answers =
     ap (λ h. answers_to h c) g.grown ∙ answers_to-append (old ++ g.between) (next_group old c ops ∷ g.after) c
-    ∙ ap (λ xs. xs ++ answers_in (last_queue (old ++ g.between)) (next_group old c ops ∷ g.after) c) before ∙ ap (λ xs. answers_to old c ++ xs) here in
-    ap (caught_from 0) all ∙ caught_from-append 0 (answers_to old c) answers
+    ∙ ap (λ xs. xs ++ answers_in (last_queue (old ++ g.between)) (next_group old c ops ∷ g.after) c) before ∙ ap (λ xs. answers_to old c ++ xs) here
+
+-- What a caller caught grows by what its group caught.
+pub caught-grew : (c : ℕ) (ops : List Op) (answers : List Answer) (old new : List Group) → Grew c ops answers old new → caught new c ≡ caught old c ++ caught_from (length (operations (mine old c))) answers
+caught-grew c ops answers old new g =
+    ap (caught_from 0) (answers_to-grew c ops answers old new g) ∙ caught_from-append 0 (answers_to old c) answers
     ∙ ap (λ k. caught old c ++ caught_from k answers) (zero-add (length (answers_to old c)) ∙ length-answers_in [] old c)
 
 -- and so does what it enqueued
@@ -125,7 +128,7 @@ pub caught-saw_more : (c : ℕ) (old new : List Group) → SawMore c old new →
 caught-saw_more c old new s = ap (λ h. caught h c) s.grown ∙ caught-later old s.more c (others_later old s.more c (ap (λ h. mine h c) (sym s.grown) ∙ s.own))
 
 -- The last call, whose last dequeue found nothing.
-pub EndedEmpty-grew : (batch c : ℕ) (ops : List Op) (answers found : List Answer) (old new : List Group) → (ops ≡ replicate batch Deq) ⊎ (ops ≡ Deq ∷ []) → answers ≡ found ++ Empty ∷ [] → Grew c ops answers old new → EndedEmpty batch c new
+pub EndedEmpty-grew : (batch c : ℕ) (ops : List Op) (answers found : List Answer) (old new : List Group) → ops ≡ replicate batch Deq → answers ≡ found ++ Empty ∷ [] → Grew c ops answers old new → EndedEmpty batch c new
 EndedEmpty-grew batch c ops answers found old new dequeues e g = record {
   before = old ++ g.between;
   group = next_group old c ops;
@@ -138,11 +141,10 @@ EndedEmpty-grew batch c ops answers found old new dequeues e g = record {
   empty = sym g.answered ∙ e;
 }
 
-none_put : (batch : ℕ) (ops : List Op) → (ops ≡ replicate batch Deq) ⊎ (ops ≡ Deq ∷ []) → enqueued ops ≡ []
-none_put batch ops (inl many) = ap enqueued many ∙ values_of_deqs batch
-none_put batch ops (inr one) = ap enqueued one
+none_put : (batch : ℕ) (ops : List Op) → ops ≡ replicate batch Deq → enqueued ops ≡ []
+none_put batch ops many = ap enqueued many ∙ values_of_deqs batch
 
-pub HandDid-ends : (units : List Numbered) (batch c : ℕ) (ops : List Op) (answers found : List Answer) (old new : List Group) → (ops ≡ replicate batch Deq) ⊎ (ops ≡ Deq ∷ []) → answers ≡ found ++ Empty ∷ [] → Grew c ops answers old new
+pub HandDid-ends : (units : List Numbered) (batch c : ℕ) (ops : List Op) (answers found : List Answer) (old new : List Group) → ops ≡ replicate batch Deq → answers ≡ found ++ Empty ∷ [] → Grew c ops answers old new
     → HandPut units c old → HandDid units batch c new
 HandDid-ends units batch c ops answers found old new dequeues e g h =
     let after = HandPut-other units c ops answers old new (none_put batch ops dequeues) g h in

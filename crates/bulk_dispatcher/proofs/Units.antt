@@ -1,5 +1,5 @@
 -- A hand's units, one unit of the file after another.
-use Rattle.std.proofs.Common.{◌≡◌, ℕ, suc, ◌+◌, ◌%◌, ◌==◌, Bool, true, false, cond, List, [], ◌∷◌, ◌++◌, length, filter, refl, sym, ap, ◌∙◌, arith, add-zero, zero-add}
+use Rattle.std.proofs.Common.{◌≡◌, ℕ, suc, ◌+◌, ◌≤◌, ◌%◌, ◌==◌, Bool, true, false, cond, List, [], ◌∷◌, ◌++◌, length, filter, refl, sym, ap, ◌∙◌, arith, add-zero, zero-add}
 use Rattle.std.specs.List.{range_with_len}
 use Rattle.std.proofs.lemmas.List.Elements.{filter-append}
 use Rattle.std.proofs.lemmas.List.Sums.{sum_by-cons}
@@ -36,3 +36,33 @@ units_of-push before unit hands lane hand =
     one : (b : Bool) → filter (λ (x : Numbered). x.place % hands == hand) (cond b (numbered_at before unit ∷ []) []) ≡ cond b (cond (length before % hands == hand) (numbered_at before unit ∷ []) []) []
     one true = refl
     one false = refl
+
+-- More units: the first ones are numbered as before.
+pub units_of-append : (before more : List JobUnit) (hands lane hand : ℕ) → (rest : List Numbered) × (units_of (before ++ more) hands lane hand ≡ units_of before hands lane hand ++ rest)
+units_of-append before more hands lane hand =
+    let p : Numbered → Bool = λ x. x.lane == lane in
+    let q : Numbered → Bool = λ x. x.place % hands == hand in
+    let later : List Numbered = numbered_from (0 + length before) (0 + job_count before) more in (
+      filter q (filter p later),
+      ap (λ units. filter q (filter p units)) (numbered-append 0 0 before more) ∙ ap (filter q) (filter-append p (numbered_from 0 0 before) later) ∙ filter-append q (filter p (numbered_from 0 0 before)) (filter p later),
+    )
+
+length-numbered : (u n : ℕ) (file : List JobUnit) → length (numbered_from u n file) ≡ length file
+length-numbered u n [] = refl
+length-numbered u n (x ∷ file) = ap suc (length-numbered (u + 1) (n + length x.jobs) file)
+
+fewer : {X : Type 0} (p : X → Bool) (xs : List X) → length (filter p xs) ≤ length xs
+fewer p [] = omega arith
+fewer p (x ∷ xs) = let rest = fewer p xs in pick (p x) rest
+  where
+    pick : (b : Bool) → length (filter p xs) ≤ length xs → length (cond b (x ∷ filter p xs) (filter p xs)) ≤ suc (length xs)
+    pick true l = omega (arith, l)
+    pick false l = omega (arith, l)
+
+-- a hand has no more units on a lane than the file
+pub units_at_most : (file : List JobUnit) (hands lane hand : ℕ) → length (units_of file hands lane hand) ≤ length file
+units_at_most file hands lane hand =
+    let all = length-numbered 0 0 file in
+    let on_lane = fewer (λ (x : Numbered). x.lane == lane) (numbered_from 0 0 file) in
+    let own = fewer (λ (x : Numbered). x.place % hands == hand) (filter (λ (x : Numbered). x.lane == lane) (numbered_from 0 0 file)) in
+    omega (arith, all, on_lane, own)

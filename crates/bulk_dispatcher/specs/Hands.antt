@@ -1,5 +1,5 @@
 -- What one hand does on one lane, as the hand itself has seen it.
-use Rattle.std.specs.Prelude.{◌≡◌, ℕ, ◌+◌, ◌<◌, Option, Some, None, ◌%◌, ◌==◌, ◌⊎◌, List, [], ◌∷◌, ◌++◌, length, map, filter, replicate, Contains, All, slice_index, slice_index_or, slice_set}
+use Rattle.std.specs.Prelude.{◌≡◌, ℕ, ◌+◌, ◌<◌, ◌≤◌, Option, Some, None, ◌%◌, ◌==◌, List, [], ◌∷◌, ◌++◌, length, map, filter, replicate, Contains, All, slice_index, slice_index_or, slice_set}
 use Rattle.std.specs.List.{flat_map, zip, filter_map, range_with_len, AllZip}
 use Rattle.bq_model.specs.declared.op.Op.TheVariants.{Deq}
 use Rattle.bq_model.specs.declared.op.Answer.{Answer}
@@ -22,7 +22,7 @@ use Rattle.bq_model.specs.Values.{enqueued}
 abbrev pub units_of : List JobUnit → ℕ → ℕ → ℕ → List Numbered
 units_of file hands lane hand = filter (λ unit. unit.place % hands == hand) (units_on file lane)
 
--- Caller c is done with a lane: its last group is of so many dequeues alone, or of one, and the last of them found nothing.
+-- Caller c is done with a lane: its last group is of so many dequeues alone, and the last of them found nothing.
 pub record EndedEmpty (batch c : ℕ) (h : List Group) : Type 0 where
   pub before : List Group
   pub group : Group
@@ -30,7 +30,7 @@ pub record EndedEmpty (batch c : ℕ) (h : List Group) : Type 0 where
   pub stands : h ≡ before ++ group ∷ after
   pub whose : group.caller ≡ c
   pub last : mine after c ≡ []
-  pub dequeues : (group.ops ≡ replicate batch Deq) ⊎ (group.ops ≡ Deq ∷ [])
+  pub dequeues : group.ops ≡ replicate batch Deq
   pub found : List Answer
   pub empty : answers_from (last_queue before) group.ops ≡ found ++ Empty ∷ []
 
@@ -41,6 +41,17 @@ given h = zip (callers_of h) (answers_of h)
 -- the answers to caller c, in the order of its serials
 abbrev pub answers_to : List Group → ℕ → List Answer
 answers_to h c = map (λ p. p.1) (filter (λ p. p.0 == c) (given h))
+
+-- how many dequeues found nothing
+abbrev pub empties : List Answer → ℕ
+empties [] = 0
+empties (Done ∷ answers) = empties answers
+empties (Got v ∷ answers) = empties answers
+empties (Empty ∷ answers) = 1 + empties answers
+
+-- how many dequeues of caller c found nothing
+abbrev pub found_nothing_by : List Group → ℕ → ℕ
+found_nothing_by h c = empties (answers_to h c)
 
 -- a dequeue of a caller by its serial, and what it got
 pub record Catch : Type 0 where
@@ -123,6 +134,8 @@ pub record HasReplied (file : List JobUnit) (lanes : List ℕ) (c : ℕ) (seen :
 -- Caller c put one unit more, of so many jobs from number `first` on.
 pub record PutsUnit (first count c : ℕ) (old new : List Group) : Type 0 where
   pub put : (units : List Numbered) (unit : Numbered) → unit.numbers ≡ range_with_len first count → HandPut units c old → HandPut (units ++ unit ∷ []) c new
+  -- few of its dequeues found nothing
+  pub few : found_nothing_by new c ≤ found_nothing_by old c + 256
 
 -- Caller c is done with a lane, whatever units it had put there.
 pub record EndsLane (batch c : ℕ) (old new : List Group) : Type 0 where

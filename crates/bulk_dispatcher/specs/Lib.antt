@@ -4,3 +4,4 @@ pub mod Replies
 pub mod Hands
 pub mod UnitOps
 pub mod Rounds
+pub mod Stops

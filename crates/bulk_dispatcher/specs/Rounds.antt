@@ -1,12 +1,16 @@
 -- What a hand does with what its operations came to.
-use Rattle.std.specs.Prelude.{◌≡◌, ℕ, Bool, true, false, List, [], ◌∷◌, ◌++◌, ◌⊎◌, replicate}
+use Rattle.std.specs.Prelude.{◌≡◌, ℕ, ◌+◌, ◌<◌, ◌≤◌, Bool, true, false, List, [], ◌∷◌, ◌++◌, length}
 use Rattle.std.specs.List.{cons_option}
 use Rattle.bq_model.specs.declared.op.Op.{Op}
-use Rattle.bq_model.specs.declared.op.Op.TheVariants.{Deq}
 use Rattle.bq_model.specs.declared.op.Answer.{Answer}
 use Rattle.bq_model.specs.declared.op.Answer.TheVariants.{Done, Got, Empty}
 use Rattle.bq_model.specs.declared.group.Group.{Group}
-use Rattle.bq_model.specs.Grows.{Grew, SawMore}
+use Rattle.bq_model.specs.declared.shape.Shape.{Shape}
+use Rattle.bq_model.specs.Values.{enqueued}
+use Rattle.bq_model.specs.Rooms.{PassesAllowance, PassesRoom}
+use Rattle.bq_model.specs.Grows.{Grew, SawMore, AtSomePoint}
+use Rattle.bulk_dispatcher.specs.declared.round.Round.{Round}
+use Rattle.bulk_dispatcher.specs.declared.round.Round.TheVariants as round
 use Rattle.bq_session.specs.declared.claim.Outcome.{Outcome}
 use Rattle.bq_session.specs.declared.claim.Outcome.TheVariants as outcome
 use Rattle.bq_session.specs.Outcome.{made_by}
@@ -49,10 +53,8 @@ pub record RoundMade (file : List JobUnit) (lane c : ℕ) (ops : List Op) (seen 
 pub record PutsNothing (c : ℕ) (old new : List Group) : Type 0 where
   pub put : (units : List Numbered) → HandPut units c old → HandPut units c new
 
--- Caller c took what is left on a lane by a batch of dequeues, or by one where the lane did not take the batch.
-pub record LaneRound (file : List JobUnit) (lane batch c : ℕ) (seen now : List Group) (before after : List Reply) (empty : Bool) : Type 0 where
-  pub ops : List Op
-  pub dequeues : (ops ≡ replicate batch Deq) ⊎ (ops ≡ Deq ∷ [])
-  pub middle : List Group
-  pub more : SawMore c seen middle
-  pub round : RoundMade file lane c ops middle now before after empty
+-- What a round of these operations came to. Where the lane refused, the caller put nothing and replied to nothing.
+abbrev pub RoundCame : Shape → List JobUnit → ℕ → ℕ → List Op → List Group → List Group → List Reply → List Reply → Round → Type 0
+RoundCame shape file lane c ops seen now before after (round.Made empty) = RoundMade file lane c ops seen now before after empty × (made_by seen c + length ops ≤ shape.allowance)
+RoundCame shape file lane c ops seen now before after round.Full = SawMore c seen now × (after ≡ before) × (0 < length (enqueued ops)) × AtSomePoint (λ point. PassesRoom shape point c ops) seen now
+RoundCame shape file lane c ops seen now before after round.Spent = SawMore c seen now × (after ≡ before) × PassesAllowance shape seen c ops

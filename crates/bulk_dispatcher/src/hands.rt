@@ -7,6 +7,7 @@ ghost use Rattle.bq_model.specs.Own.{mine};
 ghost use Rattle.bulk_dispatcher.specs.Books.{BooksFit, StandTogether, lanes_of, units_on};
 ghost use Rattle.bulk_dispatcher.specs.Replies.{RepliesFit};
 ghost use Rattle.bulk_dispatcher.specs.Hands.{EndedEmpty};
+ghost use Rattle.bulk_dispatcher.specs.Stops.{has_stopped};
 
 use crate::beside::run_beside;
 use crate::done::Done;
@@ -17,7 +18,6 @@ use bq_model::{Items, Lane, OutOfMemory};
 use job_lanes::{Desk, LaneSet};
 use job_text::JobFile;
 use std::alloc::Global;
-use std::sync::Wait;
 use std::thread::Threads;
 
 /// How many numbers lanes may have.
@@ -66,6 +66,7 @@ fn taken_apart<L: Lane>(
         let HandRun {
             desk,
             replies: mut more,
+            work: _,
         } = run;
         more.append(&mut replies)?;
         replies = more;
@@ -73,6 +74,13 @@ fn taken_apart<L: Lane>(
     }
     desks.reverse();
     Ok((desks, replies))
+}
+
+// Whether a hand stopped before its work was done.
+fn any_stopped<L: Lane>(runs: &[HandRun<L>]) -> bool
+    ensures { result ≡ list_any (λ run. has_stopped run.work) runs.now }
+{
+    runs.iter().any(|run| run.work.has_stopped())
 }
 
 // Puts replies in the order of their jobs.
@@ -85,7 +93,7 @@ fn sort_replies(replies: &mut Vec<Reply>)
 
 /// Runs the jobs of a file, by so many hands that make so many dequeues as one once they have put their jobs. Each reply
 /// names the dequeue that got its job, in the book of the job's lane.
-pub fn run_hands<L: Lane, G: Gate, R: Threads + Wait + Sync>(
+pub fn run_hands<L: Lane, G: Gate, R: Threads + Sync>(
     rt: &R,
     alloc: Global,
     jobs: &JobFile,
@@ -123,10 +131,16 @@ pub fn run_hands<L: Lane, G: Gate, R: Threads + Wait + Sync>(
         desks,
         gate,
     )?;
+    let stopped = any_stopped(&runs);
     let (mut desks, mut replies) = taken_apart(alloc, runs)?;
     desks.push(own)?;
     sort_replies(&mut replies);
     let books = set.close(desks);
+
+    // By the books each hand's operations on a lane are too few to spend its allowance.
+    if stopped {
+        unreachable!()
+    }
     Ok(Done {
         replies: Items::from(replies),
         books: Items::from(books),

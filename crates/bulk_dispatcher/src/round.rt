@@ -1,23 +1,24 @@
 // One round of a hand on one lane: what it deferred is made, and what it got is answered.
-ghost use Rattle.std.specs.Prelude.{◌≡◌, ◌<◌, ◌≤◌, ◌++◌, ◌∷◌, [], ℕ, List, length, true, false, IfOk, OnOk, MatchOption};
+ghost use Rattle.std.specs.Prelude.{◌≡◌, ◌+◌, ◌<◌, ◌≤◌, ◌++◌, ◌∷◌, [], ℕ, List, length, true, false, IfOk, OnOk, MatchOption};
 ghost use Rattle.std.specs.VecDeque.{deque_capacity};
 ghost use Rattle.bq_model.specs.declared.op.Op.TheVariants.{Deq};
 ghost use Rattle.bq_model.specs.declared.op.Answer.{Answer};
 ghost use Rattle.bq_model.specs.Grows.{SawMore};
+ghost use Rattle.bq_model.specs.Rooms.{PassesAllowance};
+ghost use Rattle.bq_session.specs.Outcome.{made_by};
 ghost use Rattle.hand_tickets.specs.Holds.{Holds, HoldsPending, all_kept};
 ghost use Rattle.bulk_dispatcher.specs.Hands.{new_replies};
-ghost use Rattle.bulk_dispatcher.specs.Rounds.{replies_to, found_nothing, ends_empty, RoundMade};
+ghost use Rattle.bulk_dispatcher.specs.Rounds.{replies_to, found_nothing, ends_empty, RoundMade, RoundCame};
 
 use crate::gate::Gate;
 use crate::reply::Reply;
 use bq_model::{Lane, OutOfMemory};
-use bq_session::{Claim, Outcome, Session, Ticket};
+use bq_session::{Claim, EvalFault, Outcome, Session, Ticket};
 use hand_tickets::{dequeue_once, make_all, spend_all, withdraw_all};
 use job_text::JobFile;
 use job_work::answer;
 use std::alloc::Global;
 use std::collections::VecDeque;
-use std::sync::Wait;
 
 // Whether an operation found nothing.
 fn is_empty(outcome: &Outcome) -> bool
@@ -110,10 +111,39 @@ fn answer_kept<L: Lane, G: Gate>(
     Ok(last)
 }
 
-/// Makes what is pending, and answers what it got; the answer tells whether the last operation found nothing. Where the
-/// room is full, all is withdrawn, and the answer is None.
-pub fn make_round<L: Lane, G: Gate, R: Wait>(
-    rt: &R,
+/// What a round came to.
+#[derive(Clone, Copy, Debug)]
+pub enum Round {
+    /// All was made. Whether the last operation found nothing.
+    Made { empty: bool },
+    /// The room was full, and all is withdrawn.
+    Full,
+    /// The allowance was spent, and all is withdrawn.
+    Spent,
+}
+
+// Withdraws all that is pending, of which this is the first ticket and the others are held, and spends the tickets.
+fn withdraw_round<L: Lane>(
+    lane: &L,
+    session: &mut Session<L>,
+    ticket: Ticket,
+    held: &mut VecDeque<Ticket>,
+) -> Result<(), OutOfMemory>
+    requires of_this_lane { (L.pass_identity session.old.pass ≡ L.identity lane.now) × (L.pass_shape session.old.pass ≡ L.lane_shape lane.now) }
+    requires holds { HoldsPending session.old.futures.lane session.old.futures.caller session.old.pending (ticket ∷ held.old.items) session.old }
+    ensures holds { OnOk result (Holds session.old.futures.lane session.old.futures.caller [] [] [] session.new) }
+    ensures none { OnOk result (held.new.items ≡ []) }
+    ensures capacity { OnOk result (deque_capacity held.old ≤ deque_capacity held.new) }
+    ensures pass_stays { session.new.pass ≡ session.old.pass }
+{
+    held.push_front(ticket)?;
+    withdraw_all(session, held);
+    spend_all(lane, session, held);
+    Ok(())
+}
+
+/// Makes what is pending, and answers what it got. Where the lane refuses, all is withdrawn.
+pub fn make_round<L: Lane, G: Gate>(
     alloc: Global,
     jobs: &JobFile,
     lane: &L,
@@ -122,13 +152,11 @@ pub fn make_round<L: Lane, G: Gate, R: Wait>(
     hand: u32,
     gate: &G,
     replies: &mut Vec<Reply>,
-) -> Result<Option<bool>, OutOfMemory>
+) -> Result<Round, OutOfMemory>
     requires of_this_lane { (L.pass_identity session.old.pass ≡ L.identity lane.now) × (L.pass_shape session.old.pass ≡ L.lane_shape lane.now) }
     requires some { 0 < length held.old.items }
     requires holds { HoldsPending session.old.futures.lane session.old.futures.caller session.old.pending held.old.items session.old }
-    ensures made { IfOk result (λ round. MatchOption round
-        (SawMore session.old.futures.caller (L.seen session.old.pass) (L.seen session.new.pass) × (replies.new.items ≡ replies.old.items))
-        (λ empty. RoundMade jobs.now session.old.futures.lane session.old.futures.caller session.old.pending (L.seen session.old.pass) (L.seen session.new.pass) replies.old.items replies.new.items empty)) }
+    ensures came { IfOk result (λ round. RoundCame (L.lane_shape lane.now) jobs.now session.old.futures.lane session.old.futures.caller session.old.pending (L.seen session.old.pass) (L.seen session.new.pass) replies.old.items replies.new.items round) }
     ensures holds { OnOk result (Holds session.old.futures.lane session.old.futures.caller [] [] [] session.new) }
     ensures none { OnOk result (held.new.items ≡ []) }
     ensures capacity { OnOk result (deque_capacity held.old ≤ deque_capacity held.new) }
@@ -137,25 +165,28 @@ pub fn make_round<L: Lane, G: Gate, R: Wait>(
     let Some(ticket) = held.pop_front() else {
         unreachable!()
     };
-    match make_all(rt, lane, session, ticket, held) {
+    match make_all(lane, session, ticket, held) {
         Ok(outcome) => {
             let empty = is_empty(&outcome);
             reply_to(alloc, jobs, outcome, hand, gate, replies)?;
             let last = answer_kept(alloc, jobs, lane, session, held, empty, hand, gate, replies)?;
-            Ok(Some(last))
+            Ok(Round::Made { empty: last })
         }
-        Err(ticket) => {
-            held.push_front(ticket)?;
-            withdraw_all(session, held);
-            spend_all(lane, session, held);
-            Ok(None)
+        Err(EvalFault::Full(same)) => {
+            withdraw_round(lane, session, same, held)?;
+            Ok(Round::Full)
         }
+        Err(EvalFault::Spent(same)) => {
+            withdraw_round(lane, session, same, held)?;
+            Ok(Round::Spent)
+        }
+        Err(EvalFault::Withdrawn) => unreachable!(),
     }
 }
 
-/// Makes one dequeue, and answers what it got; the answer tells whether it found nothing.
-pub fn dequeue_round<L: Lane, G: Gate, R: Wait>(
-    rt: &R,
+/// Makes one dequeue, and answers what it got. The answer is whether it found nothing, and None where the allowance was
+/// spent.
+pub fn dequeue_round<L: Lane, G: Gate>(
     alloc: Global,
     jobs: &JobFile,
     lane: &L,
@@ -163,15 +194,23 @@ pub fn dequeue_round<L: Lane, G: Gate, R: Wait>(
     hand: u32,
     gate: &G,
     replies: &mut Vec<Reply>,
-) -> Result<bool, OutOfMemory>
+) -> Result<Option<bool>, OutOfMemory>
     requires of_this_lane { (L.pass_identity session.old.pass ≡ L.identity lane.now) × (L.pass_shape session.old.pass ≡ L.lane_shape lane.now) }
     requires holds { Holds session.old.futures.lane session.old.futures.caller [] [] [] session.old }
-    ensures made { IfOk result (λ empty. RoundMade jobs.now session.old.futures.lane session.old.futures.caller (Deq ∷ []) (L.seen session.old.pass) (L.seen session.new.pass) replies.old.items replies.new.items empty) }
+    ensures made { IfOk result (λ made. MatchOption made
+        (SawMore session.old.futures.caller (L.seen session.old.pass) (L.seen session.new.pass) × (replies.new.items ≡ replies.old.items)
+        × PassesAllowance (L.lane_shape lane.now) (L.seen session.old.pass) session.old.futures.caller (Deq ∷ []))
+        (λ empty. RoundMade jobs.now session.old.futures.lane session.old.futures.caller (Deq ∷ []) (L.seen session.old.pass) (L.seen session.new.pass) replies.old.items replies.new.items empty
+        × (made_by (L.seen session.old.pass) session.old.futures.caller + 1 ≤ (L.lane_shape lane.now).allowance))) }
     ensures holds { OnOk result (Holds session.old.futures.lane session.old.futures.caller [] [] [] session.new) }
     ensures pass_stays { (L.pass_identity session.new.pass ≡ L.pass_identity session.old.pass) × (L.pass_shape session.new.pass ≡ L.pass_shape session.old.pass) × (L.callers session.new.pass ≡ L.callers session.old.pass) }
 {
-    let outcome = dequeue_once(rt, lane, session);
-    let empty = is_empty(&outcome);
-    reply_to(alloc, jobs, outcome, hand, gate, replies)?;
-    Ok(empty)
+    match dequeue_once(lane, session) {
+        Some(outcome) => {
+            let empty = is_empty(&outcome);
+            reply_to(alloc, jobs, outcome, hand, gate, replies)?;
+            Ok(Some(empty))
+        }
+        None => Ok(None),
+    }
 }

@@ -1,5 +1,5 @@
 // A unit of a file goes to its lane.
-ghost use Rattle.std.specs.Prelude.{◌≡◌, ◌+◌, ◌≤◌, ◌^◌, ◌<◌, [], ◌∷◌, length, OnOk};
+ghost use Rattle.std.specs.Prelude.{◌≡◌, ◌+◌, ◌≤◌, ◌^◌, ◌<◌, [], ◌∷◌, length, OnOk, IfOk};
 ghost use Rattle.std.specs.List.{range_with_len};
 ghost use Rattle.std.specs.VecDeque.{deque_capacity};
 ghost use Rattle.job_text.specs.JobFile.{job_count};
@@ -7,18 +7,19 @@ ghost use Rattle.job_lanes.specs.Seats.{seat};
 ghost use Rattle.job_lanes.specs.Rest.{IsAtRest};
 ghost use Rattle.hand_tickets.specs.Holds.{Holds, HoldsPending};
 ghost use Rattle.bulk_dispatcher.specs.Hands.{PutsUnit, Answered};
+ghost use Rattle.bulk_dispatcher.specs.Stops.{Serves, MetSpent, AtWork};
 ghost use Rattle.bulk_dispatcher.specs.UnitOps.{unit_ops};
 
 use crate::gate::Gate;
 use crate::reply::Reply;
-use crate::round::{dequeue_round, make_round};
+use crate::round::{Round, dequeue_round, make_round};
+use crate::work::Work;
 use bq_model::{Lane, OutOfMemory};
 use bq_session::{Session, Ticket};
 use hand_tickets::{defer_dequeues, defer_jobs};
 use job_text::JobFile;
 use std::alloc::Global;
 use std::collections::VecDeque;
-use std::sync::Wait;
 
 /// The most tickets of a session.
 pub const MOST_TICKETS: usize = 256;
@@ -45,8 +46,8 @@ fn defer_unit<L: Lane>(
 }
 
 /// Puts the jobs of a unit, which have `count` numbers from `first` on, on a lane, and replies to what it gets there.
-pub fn put_unit<L: Lane, G: Gate, R: Wait>(
-    rt: &R,
+/// Where the lane is full it makes a dequeue and tries again, which ends since after an Empty nothing queued is its own.
+pub fn put_unit<L: Lane, G: Gate>(
     alloc: Global,
     jobs: &JobFile,
     lane: &L,
@@ -56,29 +57,32 @@ pub fn put_unit<L: Lane, G: Gate, R: Wait>(
     hand: u32,
     gate: &G,
     replies: &mut Vec<Reply>,
-) -> Result<(), OutOfMemory>
+) -> Result<Work, OutOfMemory>
     requires of_this_lane { seat (L.pass_identity session.old.pass) (L.pass_shape session.old.pass) (L.callers session.old.pass) ≡ seat (L.identity lane.now) (L.lane_shape lane.now) (hand ∷ []) }
+    requires serves { Serves (L.lane_shape lane.now) }
     requires at_rest { IsAtRest session.old.futures.lane hand session.old }
     requires unit { count ≤ 100 }
     requires file { first + count ≤ job_count jobs.now }
     requires numbers { first + count < 2 ^ 32 }
-    ensures put { OnOk result (PutsUnit first count hand (L.seen session.old.pass) (L.seen session.new.pass)) }
+    ensures put { IfOk result (λ work. AtWork work (PutsUnit first count hand (L.seen session.old.pass) (L.seen session.new.pass)) (MetSpent hand (L.seen session.old.pass) (L.seen session.new.pass))) }
     ensures answered { OnOk result (Answered jobs.now session.old.futures.lane hand (L.seen session.old.pass) (L.seen session.new.pass) replies.old.items replies.new.items) }
     ensures seat_stays { OnOk result (seat (L.pass_identity session.new.pass) (L.pass_shape session.new.pass) (L.callers session.new.pass)
         ≡ seat (L.pass_identity session.old.pass) (L.pass_shape session.old.pass) (L.callers session.old.pass)) }
     ensures at_rest { OnOk result (IsAtRest session.old.futures.lane hand session.new) }
 {
     let mut held = VecDeque::with_capacity(alloc, MOST_TICKETS)?;
-    for _ in rt.forever() {
+    'tries: loop {
         defer_unit(session, first, count, &mut held);
-        if make_round(
-            rt, alloc, jobs, lane, session, &mut held, hand, gate, replies,
-        )?
-        .is_some()
-        {
-            return Ok(());
+        let came = make_round(alloc, jobs, lane, session, &mut held, hand, gate, replies)?;
+        match came {
+            Round::Made { .. } => return Ok(Work::Done),
+            Round::Spent => return Ok(Work::Spent),
+            Round::Full => {}
         }
-        dequeue_round(rt, alloc, jobs, lane, session, hand, gate, replies)?;
+        let found = dequeue_round(alloc, jobs, lane, session, hand, gate, replies)?;
+        match found {
+            Some(_) => {}
+            None => return Ok(Work::Spent),
+        }
     }
-    unreachable!()
 }

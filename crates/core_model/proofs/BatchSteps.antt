@@ -35,7 +35,6 @@ use Rattle.core_model.proofs.Callers.{guards_stable}
 use Rattle.core_model.proofs.Preserves.{kept_stepped, debts_same, known, stutters, preserves, changed}
 use Rattle.core_model.proofs.StoredAgain.{same_places}
 use Rattle.core_model.proofs.BatchRows.{run_of, length-enqueued}
-use Rattle.lane_steps.specs.declared.point.Point.TheVariants.{Idle}
 use Rattle.lane_steps.specs.Batch.{on_head, retry}
 use Rattle.lane_steps.specs.declared.point.BatchPoint.{BatchPoint}
 use Rattle.core_model.proofs.Lookups.{node_found}

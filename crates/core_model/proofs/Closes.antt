@@ -17,7 +17,7 @@ use Rattle.lane_steps.specs.Functions.{put, rising}
 use Rattle.lane_steps.specs.LaneSizes.{LaneSizes}
 use Rattle.lane_steps.specs.State.{Memory, Caller, State, own_group}
 use Rattle.lane_steps.specs.Answers.{closing_answers}
-use Rattle.lane_steps.specs.Close.{is_done, to_pass, answer_known}
+use Rattle.lane_steps.specs.Close.{is_done, answer_known}
 use Rattle.lane_steps.specs.Close as closing
 use Rattle.lane_steps.specs.Fact.{linearized_is, own_rows, since, retires_these, lets_go}
 use Rattle.lane_steps.specs.Step.{ended, done, scans, frees, frees_next, clears_ann, clears_node, loses, closes}

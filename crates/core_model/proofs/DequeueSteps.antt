@@ -30,7 +30,6 @@ use Rattle.core_model.proofs.StoredAgain.{same_places, write_read}
 use Rattle.std.proofs.lemmas.Bool.{and_from}
 use mathlib.Core.Logic.{dite}
 use native.Mathlib.Decide.{dec_le}
-use Rattle.lane_steps.specs.declared.point.Point.TheVariants.{Idle}
 use Rattle.lane_steps.specs.Help.{help_of}
 use Rattle.lane_steps.specs.declared.point.DequeuePoint.{DequeuePoint}
 use Rattle.core_model.proofs.Tails.{exchanges, with_memory}

@@ -24,7 +24,6 @@ use Rattle.word_rows.specs.declared.link_word.LinkWord.{LinkWord}
 use Rattle.word_rows.specs.declared.link_word.LinkWord.TheVariants.{Nil, Single, Chain, Shut}
 use Rattle.word_rows.specs.declared.location.Location.TheVariants.{Head, Tail, Link}
 use Rattle.word_rows.specs.declared.content.Content.TheVariants.{OfHead, OfTail, OfLink}
-use Rattle.lane_steps.specs.declared.point.Point.TheVariants.{Idle}
 use Rattle.lane_steps.specs.Act.{same_place, is_nil, location}
 use Rattle.lane_steps.specs.Help.{help_of}
 use Rattle.bq_model.specs.declared.op.Answer.TheVariants.{Done}

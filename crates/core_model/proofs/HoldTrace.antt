@@ -6,7 +6,6 @@ use Rattle.bq_model.specs.declared.op.Answer.TheVariants.{Got, Empty}
 use Rattle.excess_count.specs.Excess.{excess_of}
 use Rattle.word_rows.specs.declared.head_word.HeadWord.TheVariants.{Ann}
 use Rattle.lane_steps.specs.declared.point.Point.{Point}
-use Rattle.lane_steps.specs.declared.point.Point.TheVariants.{Idle}
 use Rattle.lane_steps.specs.declared.point.Point.TheVariants as point
 use Rattle.lane_steps.specs.declared.point.DequeuePoint.TheVariants as deq
 use Rattle.lane_steps.specs.declared.point.Guarding.TheVariants as guard

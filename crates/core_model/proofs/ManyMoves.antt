@@ -25,7 +25,6 @@ use Rattle.core_model.specs.Lawful.{Lawful}
 use Rattle.core_model.proofs.Rely.{third, fourth, fifth, world}
 use Rattle.core_model.proofs.Preserves.{known, stutters, changed, stutters_at, stutters_with}
 use Rattle.core_model.proofs.StoredAgain.{same_places, write_read}
-use Rattle.lane_steps.specs.declared.point.Point.TheVariants.{Idle}
 use Rattle.core_model.proofs.Lookups.{next_found, node_found}
 use Rattle.lane_steps.specs.declared.point.Point.TheVariants as point
 use Rattle.core_model.proofs.HeadMoves.{bare_queue, none_queued, head_moved, found_empty}

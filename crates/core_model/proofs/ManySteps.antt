@@ -24,7 +24,6 @@ use Rattle.core_model.proofs.StoredAgain.{write_read}
 use Rattle.std.proofs.lemmas.Bool.{leb-true}
 use mathlib.Core.Logic.{dite}
 use native.Mathlib.Decide.{dec_le}
-use Rattle.lane_steps.specs.declared.point.Point.TheVariants.{Idle}
 use Rattle.lane_steps.specs.Help.{help_of}
 use Rattle.core_model.proofs.Tails.{exchanges, with_memory}
 use Rattle.core_model.proofs.Lookups.{next_found}

@@ -35,7 +35,6 @@ use Rattle.lane_steps.specs.Batch as batching
 use Rattle.lane_steps.specs.Many as dequeuing
 use Rattle.lane_steps.specs.Help.{before_it}
 use Rattle.lane_steps.specs.Stopper.{is_stopped, linked_rows, passes}
-use Rattle.lane_steps.specs.Take.{taken_marks}
 use Rattle.lane_steps.specs.Take as taking
 use Rattle.lane_steps.specs.Guard as guarding
 use Rattle.lane_steps.specs.Close.{to_pass}

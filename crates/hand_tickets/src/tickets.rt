@@ -1,15 +1,18 @@
 // The rounds of a hand with one session: what it defers is made as one group, or withdrawn.
-ghost use Rattle.std.specs.Prelude.{◌≡◌, ◌≢◌, ◌+◌, ◌≤◌, ◌<◌, ◌^◌, ℕ, [], ◌∷◌, ◌++◌, length, map, replicate, IfOk, IfErr, OnErr};
+ghost use Rattle.std.specs.Prelude.{◌≡◌, ◌≢◌, ◌+◌, ◌≤◌, ◌<◌, ◌^◌, ℕ, [], ◌∷◌, ◌++◌, length, map, replicate, IfOk, OnOk, IfErr, OnErr, IsErrOf, IfSome, OnSome, IfNone};
 ghost use Rattle.std.specs.List.{range_with_len};
 ghost use Rattle.std.specs.VecDeque.{deque_len, deque_capacity};
-ghost use Rattle.bq_model.specs.Grows.{SawMore};
+ghost use Rattle.bq_model.specs.Values.{enqueued};
+ghost use Rattle.bq_model.specs.Rooms.{PassesAllowance, PassesRoom};
+ghost use Rattle.bq_model.specs.Grows.{SawMore, AtSomePoint};
+ghost use Rattle.bq_session.specs.Session.{GivesBack};
+ghost use Rattle.bq_session.specs.Outcome.{made_by};
 ghost use Rattle.bq_session.specs.Futures.{IsIssued, live_count};
 ghost use Rattle.hand_tickets.specs.Holds.{Holds, HoldsPending, IsMadeOfAll, some_withdrawn, all_pending};
 
 use bq_model::{Lane, Op};
-use bq_session::{EvalFault, Outcome, Refused, Session, Ticket};
+use bq_session::{EvalFault, Outcome, PlainFault, Refused, Session, Ticket};
 use std::collections::VecDeque;
-use std::sync::Wait;
 
 // Defers an operation for which there is room.
 fn deferred<L: Lane>(session: &mut Session<L>, op: Op) -> Ticket
@@ -77,32 +80,26 @@ pub fn defer_jobs<L: Lane>(
     }
 }
 
-/// Makes all that is pending, by evaluating its first ticket. Where the allowance is spent it tries again. Where the
-/// room is full the ticket comes back.
-pub fn make_all<L: Lane, R: Wait>(
-    rt: &R,
+/// Makes all that is pending, by evaluating its first ticket. Where the lane refuses, the ticket comes back.
+pub fn make_all<L: Lane>(
     lane: &L,
     session: &mut Session<L>,
-    mut ticket: Ticket,
+    ticket: Ticket,
     held: &VecDeque<Ticket>,
-) -> Result<Outcome, Ticket>
+) -> Result<Outcome, EvalFault>
     requires of_this_lane { (L.pass_identity session.old.pass ≡ L.identity lane.now) × (L.pass_shape session.old.pass ≡ L.lane_shape lane.now) }
     requires holds { HoldsPending session.old.futures.lane session.old.futures.caller session.old.pending (ticket ∷ held.now.items) session.old }
     ensures made { IfOk result (λ outcome. IsMadeOfAll session.old.futures.lane session.old.futures.caller session.old.pending held.now.items outcome (L.seen session.old.pass) (L.seen session.new.pass) session.new) }
-    ensures ticket { IfErr result (λ same. same ≡ ticket) }
+    ensures within_allowance { OnOk result (made_by (L.seen session.old.pass) session.old.futures.caller + length session.old.pending ≤ (L.lane_shape lane.now).allowance) }
+    ensures ticket { IfErr result (λ fault. GivesBack fault ticket × (fault ≢ EvalFault.Withdrawn)) }
     ensures saw_more { OnErr result (SawMore session.old.futures.caller (L.seen session.old.pass) (L.seen session.new.pass)) }
     ensures all_stays { OnErr result (session.new ≡ record session.old { pass = session.new.pass }) }
+    ensures spent { IsErrOf result (EvalFault.Spent ticket) → PassesAllowance (L.lane_shape lane.now) (L.seen session.old.pass) session.old.futures.caller session.old.pending }
+    ensures full { IsErrOf result (EvalFault.Full ticket)
+        → (0 < length (enqueued session.old.pending)) × AtSomePoint (λ point. PassesRoom (L.lane_shape lane.now) point session.old.futures.caller session.old.pending) (L.seen session.old.pass) (L.seen session.new.pass) }
     ensures pass_stays { (L.pass_identity session.new.pass ≡ L.pass_identity session.old.pass) × (L.pass_shape session.new.pass ≡ L.pass_shape session.old.pass) × (L.callers session.new.pass ≡ L.callers session.old.pass) }
 {
-    for _ in rt.forever() {
-        match session.evaluate(lane, ticket) {
-            Ok(outcome) => return Ok(outcome),
-            Err(EvalFault::Full(same)) => return Err(same),
-            Err(EvalFault::Spent(same)) => ticket = same,
-            Err(EvalFault::Withdrawn) => unreachable!(),
-        }
-    }
-    unreachable!()
+    session.evaluate(lane, ticket)
 }
 
 /// Withdraws all that is pending.
@@ -128,17 +125,21 @@ pub fn spend_all<L: Lane>(lane: &L, session: &mut Session<L>, held: &mut VecDequ
     }
 }
 
-/// Makes a dequeue where nothing is deferred. It tries again until the lane takes it.
-pub fn dequeue_once<L: Lane, R: Wait>(rt: &R, lane: &L, session: &mut Session<L>) -> Outcome
+/// Makes a dequeue where nothing is deferred. Where the allowance is spent there is no outcome.
+pub fn dequeue_once<L: Lane>(lane: &L, session: &mut Session<L>) -> Option<Outcome>
     requires of_this_lane { (L.pass_identity session.old.pass ≡ L.identity lane.now) × (L.pass_shape session.old.pass ≡ L.lane_shape lane.now) }
     requires holds { Holds session.old.futures.lane session.old.futures.caller [] [] [] session.old }
-    ensures made { IsMadeOfAll session.old.futures.lane session.old.futures.caller (Op.Deq ∷ []) [] result (L.seen session.old.pass) (L.seen session.new.pass) session.new }
+    ensures made { IfSome result (λ outcome. IsMadeOfAll session.old.futures.lane session.old.futures.caller (Op.Deq ∷ []) [] outcome (L.seen session.old.pass) (L.seen session.new.pass) session.new) }
+    ensures within_allowance { OnSome result (made_by (L.seen session.old.pass) session.old.futures.caller + 1 ≤ (L.lane_shape lane.now).allowance) }
+    ensures saw_more { IfNone result (SawMore session.old.futures.caller (L.seen session.old.pass) (L.seen session.new.pass)) }
+    ensures all_stays { IfNone result (session.new ≡ record session.old { pass = session.new.pass }) }
+    ensures spent { IfNone result (PassesAllowance (L.lane_shape lane.now) (L.seen session.old.pass) session.old.futures.caller (Op.Deq ∷ [])) }
     ensures pass_stays { (L.pass_identity session.new.pass ≡ L.pass_identity session.old.pass) × (L.pass_shape session.new.pass ≡ L.pass_shape session.old.pass) × (L.callers session.new.pass ≡ L.callers session.old.pass) }
 {
-    for _ in rt.forever() {
-        if let Ok(outcome) = session.dequeue(lane) {
-            return outcome;
-        }
+    match session.dequeue(lane) {
+        Ok(outcome) => Some(outcome),
+        Err(PlainFault::Spent) => None,
+        Err(PlainFault::Full) => unreachable!(),
+        Err(PlainFault::BatchFull) => unreachable!(),
     }
-    unreachable!()
 }

@@ -1,5 +1,5 @@
 -- The fault of a line is the first of the causes that apply to it.
-use Rattle.std.proofs.Common.{◌≡◌, ℕ, ◌+◌, ◌≤◌, true, false, Bool, List, [], ◌∷◌, ◌++◌, length, Option, Some, None, Result, Ok, Err, refl, arith, append-nil, subst, sym, All, nat_le, codes, if◌then◌else◌}
+use Rattle.std.proofs.Common.{◌≡◌, ℕ, ◌+◌, ◌≤◌, true, false, Bool, List, [], ◌∷◌, ◌++◌, length, Option, Some, None, Result, Ok, Err, refl, arith, subst, All, nat_le, codes, if◌then◌else◌}
 use Rattle.std.specs.Str.{bytes_eq}
 use Rattle.std.specs.Option.{option_map}
 use Rattle.std.proofs.lemmas.List.Elements.{All-nil, All-cons, All-append}
@@ -16,8 +16,8 @@ use Rattle.job_work.specs.declared.job.Job.TheVariants.{Sum, Digest, Words}
 use Rattle.job_text.specs.declared.file.Unit.{Unit}
 use Rattle.job_text.specs.declared.block.Block.{Block}
 use Rattle.job_text.specs.JobFile.{job_count, most_jobs, most_in_unit}
-use Rattle.job_text.specs.JobWords.{lane_of, lane_of_number, sum_of, digest_of, count_of, mix_of, job_of, job_of_kind, lane_job_of, only_lane_of}
-use Rattle.job_text.specs.Grammar.{LinesSay, unit_of, add_job, put_job, end_block, open_block, outside, inside, line_in, meaning}
+use Rattle.job_text.specs.JobWords.{lane_of, lane_of_number, digest_of, count_of, mix_of, job_of, job_of_kind, lane_job_of}
+use Rattle.job_text.specs.Grammar.{LinesSay, add_job, put_job, end_block, open_block, outside, inside, line_in, meaning}
 use Rattle.job_text.specs.LineCauses.{word_causes, place_causes, count_causes, job_causes, block_causes, outside_causes, inside_causes, causes_in, applying}
 
 -- the place of a bad lane, behind which no cause of a lane or a job comes

@@ -7,7 +7,6 @@ use Rattle.atomic_table.specs.Table as table
 use Rattle.bq_model.specs.declared.group.Group.{Group}
 use Rattle.bq_model.specs.declared.shape.Shape.{Shape}
 use Rattle.word_rows.specs.Memory.{Shows}
-use Rattle.lane_steps.specs.LaneSizes.{lane_sizes}
 use Rattle.lane_steps.specs.State.{Caller, State, read}
 use Rattle.lane_steps.specs.Start.{newcomer}
 use Rattle.lane_rank.specs.Return.{Ranked}

@@ -10,7 +10,7 @@ mod steps;
 mod view;
 
 pub use seats::{gather, next_caller};
-pub use steps::{Token, Words, first_step, load, step};
+pub use steps::{Token, Words, exchange, first_load, first_step, join, load, step, store};
 pub use view::{
     Command, Finds, FirstFinds, Gathers, Held, Kept, Kind, LaneRule, Learns, Makes, Stores, View,
 };

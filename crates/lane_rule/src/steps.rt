@@ -26,36 +26,26 @@ pub fn load(words: &Words, shape: &Shape, token: &mut Token, location: Location)
     Content::unpack(location, found).unwrap()
 }
 
-// A store. What it finds is not known.
-fn store(
-    words: &Words,
-    shape: &Shape,
-    caller: u32,
-    token: &mut Token,
-    point: Point,
-    location: Location,
-    new: Content,
-)
-    requires at { IsAt words.now.table_id words.now.key shape.now caller point token.old }
-    requires store { act caller point ≡ Act.Store location new }
-    ensures { (found : Content) × Moves token.old found token.new }
+/// The next step of the seat's caller, which stores this in this word.
+pub fn store(words: &Words, shape: &Shape, token: &mut Token, location: Location, new: Content)
+    requires at { IsAt words.now.table_id words.now.key shape.now token.old.me.0.caller token.old.me.0.kept.point token.old }
+    requires store { act token.old.me.0.caller token.old.me.0.kept.point ≡ Act.Store location new }
+    ensures { Moves token.old new token.new }
 {
     words.store::<Stores>(token, location.index(shape) as usize, new.pack());
 }
 
-// An exchange, which gives what it found.
-fn exchange(
+/// The next step of the seat's caller, which exchanges this word where that has `old`. Gives what it found.
+pub fn exchange(
     words: &Words,
     shape: &Shape,
-    caller: u32,
     token: &mut Token,
-    point: Point,
     location: Location,
     old: Content,
     new: Content,
 ) -> Content
-    requires at { IsAt words.now.table_id words.now.key shape.now caller point token.old }
-    requires exchange { act caller point ≡ Act.Exchange location old new }
+    requires at { IsAt words.now.table_id words.now.key shape.now token.old.me.0.caller token.old.me.0.kept.point token.old }
+    requires exchange { act token.old.me.0.caller token.old.me.0.kept.point ≡ Act.Exchange location old new }
     ensures { Moves token.old result token.new }
 {
     let found = words.compare_exchange::<Finds>(
@@ -67,18 +57,10 @@ fn exchange(
     Content::unpack(location, found).unwrap()
 }
 
-// Marks of a row set, which gives what it found.
-fn join(
-    words: &Words,
-    shape: &Shape,
-    caller: u32,
-    token: &mut Token,
-    point: Point,
-    row: u32,
-    marks: Marks,
-) -> Content
-    requires at { IsAt words.now.table_id words.now.key shape.now caller point token.old }
-    requires join { act caller point ≡ Act.Join row marks }
+/// The next step of the seat's caller, which sets these marks of a row. Gives what it found.
+pub fn join(words: &Words, shape: &Shape, token: &mut Token, row: u32, marks: Marks) -> Content
+    requires at { IsAt words.now.table_id words.now.key shape.now token.old.me.0.caller token.old.me.0.kept.point token.old }
+    requires join { act token.old.me.0.caller token.old.me.0.kept.point ≡ Act.Join row marks }
     ensures { Moves token.old result token.new }
 {
     let location = Location::Mark { row };
@@ -94,18 +76,17 @@ pub fn step(words: &Words, shape: &Shape, caller: u32, token: &mut Token, point:
     match point.act(caller) {
         Act::Load(location) => load(words, shape, token, location),
         Act::Store(location, new) => {
-            store(words, shape, caller, token, point, location, new);
+            store(words, shape, token, location, new);
             new
         }
-        Act::Exchange(location, old, new) => {
-            exchange(words, shape, caller, token, point, location, old, new)
-        }
-        Act::Join { row, marks } => join(words, shape, caller, token, point, row, marks),
+        Act::Exchange(location, old, new) => exchange(words, shape, token, location, old, new),
+        Act::Join { row, marks } => join(words, shape, token, row, marks),
     }
 }
 
-// A load that starts a command.
-fn first_load<C: Command>(
+/// The start of a command of this idle caller, which begins at this point, and its first step, a load, both in one. Gives what
+/// it found.
+pub fn first_load<C: Command>(
     words: &Words,
     shape: &Shape,
     caller: u32,

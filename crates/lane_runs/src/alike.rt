@@ -7,12 +7,11 @@ use bulk_dispatcher::{NoGate, run_hands};
 use job_text::{JobFile, print_reply, read_jobs};
 use std::alloc::Global;
 use std::process::Abort;
-use std::sync::Wait;
 use std::test::Fail;
 use std::thread::Threads;
 
 // The text of the replies to the jobs, from so many hands that make so many dequeues as one.
-fn replied<L: Lane, R: Threads + Wait + Sync>(
+fn replied<L: Lane, R: Threads + Sync>(
     rt: &R,
     alloc: Global,
     file: &JobFile,
@@ -31,7 +30,7 @@ fn replied<L: Lane, R: Threads + Wait + Sync>(
 }
 
 /// The replies to these jobs are these, by so many hands.
-pub fn replies_alike<R: Threads + Wait + Sync + Abort>(
+pub fn replies_alike<R: Threads + Sync + Abort>(
     rt: &R,
     alloc: Global,
     jobs: &[u8],

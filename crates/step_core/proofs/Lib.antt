@@ -5,6 +5,7 @@ pub mod Callers
 pub mod Fields
 pub mod Openings
 pub mod Landings
+pub mod Refusals
 pub mod Sound
 pub mod Begins
 pub mod Enqueued

@@ -2,6 +2,7 @@
 pub mod Words
 pub mod Calls
 pub mod Due
+pub mod Refused
 pub mod Lists
 pub mod Machine
 pub mod Commands

@@ -14,6 +14,7 @@ use Rattle.lane_steps.specs.State.{Caller, State}
 use Rattle.lane_steps.specs.Start.{newcomer}
 use Rattle.step_core.specs.declared.lists.Lists.{Lists}
 use Rattle.step_core.specs.Calls.{call_of}
+use Rattle.step_core.specs.Refused.{enqueues_of}
 
 -- its shape, its words, the history, and what it keeps of each caller
 pub record View : Type 0 where
@@ -32,9 +33,14 @@ pub record View : Type 0 where
   pub node_hazards : List (Option ℕ)
   pub history : List Group
   pub callers : List Caller
+  -- how many enqueues the last command of each caller has
+  pub enqueues : List ℕ
 
 abbrev pub caller_at : View → ℕ → Caller
 caller_at v c = slice_index_or v.callers c newcomer
+
+abbrev pub enqueues_at : View → ℕ → ℕ
+enqueues_at v c = enqueues_of v.enqueues c
 
 -- the state of the lane that it shows
 abbrev pub state_at : View → State
@@ -68,4 +74,5 @@ view_of m = record {
   node_hazards = m.words.node_hazards.items;
   history = m.history.items;
   callers = map call_of m.calls.items;
+  enqueues = m.enqueues.items;
 }

@@ -43,6 +43,17 @@ fn no_copies(alloc: Global, callers: u32) -> Result<Vec<Ops>, OutOfMemory>
     Ok(copies)
 }
 
+// A number of enqueues for each caller that made no command yet.
+fn no_enqueues(alloc: Global, callers: u32) -> Result<Vec<u32>, OutOfMemory>
+    ensures len { IfOk result (λ enqueues. vec_len enqueues ≡ callers) }
+{
+    let mut enqueues = Vec::new(alloc);
+    for _made in 0..callers {
+        enqueues.push(0)?;
+    }
+    Ok(enqueues)
+}
+
 /// The state of a machine.
 #[derive(Drop)]
 pub struct Lists {
@@ -53,6 +64,8 @@ pub struct Lists {
     pub calls: Vec<Call>,
     /// For each caller the operations of its running command once more: those of its group in the history.
     pub copies: Vec<Ops>,
+    /// For each caller how many enqueues its last command has.
+    pub enqueues: Vec<u32>,
 }
 
 // Whose group the step adds to the history: that of the announcement's owner where it links a chain or a stopper or decides,
@@ -84,6 +97,7 @@ impl Lists {
         )?;
         let calls = newcomers(alloc, &shape)?;
         let copies = no_copies(alloc, shape.callers())?;
+        let enqueues = no_enqueues(alloc, shape.callers())?;
         Ok(Lists {
             alloc,
             shape,
@@ -91,6 +105,7 @@ impl Lists {
             history: Vec::new(alloc),
             calls,
             copies,
+            enqueues,
         })
     }
 
@@ -123,6 +138,7 @@ impl Lists {
         ensures shape { self.new.shape ≡ self.old.shape }
         ensures words { self.new.words ≡ self.old.words }
         ensures calls_stay { self.new.calls ≡ self.old.calls }
+        ensures enqueues_stay { self.new.enqueues ≡ self.old.enqueues }
     {
         let batch = self.batch(caller);
         let ops = mem::replace(&mut self.copies[caller as usize], Ops::new(self.alloc));
@@ -141,6 +157,7 @@ impl Lists {
         ensures shape { self.new.shape ≡ self.old.shape }
         ensures words { self.new.words ≡ self.old.words }
         ensures calls_stay { self.new.calls ≡ self.old.calls }
+        ensures enqueues_stay { self.new.enqueues ≡ self.old.enqueues }
     {
         if point.linearizes(found) {
             let caller = group_owner(&self.shape, caller, point);
@@ -159,7 +176,7 @@ impl Lists {
             ≡ all_due self.old.calls.items + due (callers_of self.new.calls.items caller) }
         ensures ready { All (IsReady self.old.shape.batch self.old.shape.callers) self.new.calls.items }
         ensures len { vec_len self.new.calls ≡ vec_len self.old.calls }
-        ensures rest { (self.new.shape ≡ self.old.shape) × (self.new.words ≡ self.old.words) × (self.new.history ≡ self.old.history) × (self.new.copies ≡ self.old.copies) }
+        ensures rest { (self.new.shape ≡ self.old.shape) × (self.new.words ≡ self.old.words) × (self.new.history ≡ self.old.history) × (self.new.copies ≡ self.old.copies) × (self.new.enqueues ≡ self.old.enqueues) }
     {
         let now = self.history.len();
         let call = &mut self.calls[caller as usize];
@@ -175,6 +192,7 @@ impl Lists {
         ensures kind { kind_of ((state_of self.old).callers caller).point ≡ Some result }
         ensures sound { IsSound self.new }
         ensures shape { self.new.shape ≡ self.old.shape }
+        ensures enqueues_stay { self.new.enqueues ≡ self.old.enqueues }
     {
         let point = self.point(caller);
         let act = point.act(caller);

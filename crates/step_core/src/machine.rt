@@ -1,5 +1,5 @@
 // A machine, which shows a lawful lane between any two steps.
-ghost use Rattle.std.specs.Prelude.{◌≡◌, ◌≢◌, ◌↔◌, ◌<◌, ◌≤◌, IfOk, IsNone, Ok, Some, [], length};
+ghost use Rattle.std.specs.Prelude.{◌≡◌, ◌≢◌, ℕ, ◌↔◌, ◌<◌, ◌≤◌, IfOk, IsNone, Ok, Some, [], length};
 ghost use Rattle.bq_model.specs.Proper.{IsProper};
 ghost use Rattle.lane_steps.specs.declared.point.Point.TheVariants.{Idle};
 ghost use Rattle.core_model.specs.Kept.{LastDone};
@@ -8,7 +8,9 @@ ghost use Rattle.lane_steps.specs.Kind.{kind_of};
 ghost use Rattle.lane_steps.specs.Step.{next};
 ghost use Rattle.lane_steps.specs.Start.{PassesAllowance, IsCommand, start, opening};
 ghost use Rattle.core_model.specs.Lawful.{Lawful};
-ghost use Rattle.step_core.specs.Machine.{caller_at, state_at};
+ghost use Rattle.excess_count.specs.Excess.{enqueue_count};
+ghost use Rattle.step_core.specs.Machine.{caller_at, enqueues_at, state_at};
+ghost use Rattle.step_core.specs.Refused.{PassedRoom};
 
 use crate::lists::Lists;
 use crate::starts::Started;
@@ -73,6 +75,9 @@ impl Machine {
         ensures running { (result ≡ Ok Started.Running) → state_at self.new ≡ start (lane_sizes self.old.shape) (state_at self.old) caller ops.now }
         ensures runs { (result ≡ Ok Started.Running) → (caller_at self.new caller).point ≢ Idle }
         ensures refusal_changes_nothing { result ≢ Ok Started.Running → state_at self.new ≡ state_at self.old }
+        ensures counts_its_enqueues { (result ≡ Ok Started.Running) → enqueues_at self.new caller ≡ enqueue_count ops.now }
+        ensures others_keep_their_number { (c : ℕ) → c ≢ caller → enqueues_at self.new c ≡ enqueues_at self.old c }
+        ensures refusal_counts_nothing { result ≢ Ok Started.Running → self.new.enqueues ≡ self.old.enqueues }
         ensures shape { self.new.shape ≡ self.old.shape }
     {
         self.lists.start(caller, ops)
@@ -86,6 +91,7 @@ impl Machine {
         ensures step { state_at self.new ≡ next (lane_sizes self.old.shape) (state_at self.old) caller }
         ensures kind { kind_of (caller_at self.old caller).point ≡ Some result }
         ensures shape { self.new.shape ≡ self.old.shape }
+        ensures numbers_of_enqueues_stay { self.new.enqueues ≡ self.old.enqueues }
     {
         self.lists.step(caller)
     }
@@ -102,7 +108,9 @@ impl Machine {
     /// How the caller's last command that ended did end.
     pub fn result(&self, caller: u32) -> Option<CallEnd>
         requires { caller < self.now.shape.callers }
-        ensures { result ≡ (caller_at self.now caller).outcome }
+        ensures outcome { result ≡ (caller_at self.now caller).outcome }
+        ensures full_passed_the_room { (caller_at self.now caller).point ≡ Idle → result ≡ Some CallEnd.Full
+            → PassedRoom self.now.shape.room self.now.history caller (caller_at self.now caller).started_at (caller_at self.now caller).ended_at (enqueues_at self.now caller) }
     {
         self.lists.calls[caller as usize].outcome
     }

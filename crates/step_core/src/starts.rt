@@ -10,6 +10,7 @@ ghost use Rattle.lane_steps.specs.LaneSizes.{lane_sizes};
 ghost use Rattle.lane_steps.specs.Start.{PassesAllowance, IsCommand, first_point, begun, start};
 ghost use Rattle.lane_steps.specs.State.{Caller};
 ghost use Rattle.step_core.specs.Lists.{callers_of, state_of, IsSound};
+ghost use Rattle.step_core.specs.Refused.{enqueues_of};
 
 use crate::lists::Lists;
 use bq_model::{Op, Ops, OutOfMemory, Shape};
@@ -75,13 +76,14 @@ impl Lists {
         ensures sound { IsSound self.new }
         ensures history { OnOk result (vec_len self.new.history + vec_len self.new.calls ≤ vec_capacity self.new.history) }
         ensures room { OnOk result (IfSome (slice_get self.new.calls.items caller) (λ k. vec_len k.mine < vec_capacity k.mine)) }
+        ensures enqueues_stay { self.new.enqueues ≡ self.old.enqueues }
     {
         self.history.reserve(self.calls.len())?;
         let call = &mut self.calls[caller as usize];
         call.reserve()
     }
 
-    // The command begins, with its operations, a copy of them and the values of its enqueues.
+    // The command begins, with its operations, a copy of them and the values of its enqueues, whose number is noted.
     fn begin(&mut self, caller: u32, counts: Counts, ops: Ops, copy: Ops, puts: Vec<u64>)
         requires sound { IsSound self.old }
         requires known { caller < self.old.shape.callers }
@@ -100,6 +102,8 @@ impl Lists {
             (begun (lane_sizes self.old.shape) (vec_len self.old.history) caller (callers_of self.old.calls.items caller) ops) }
         ensures sound { IsSound self.new }
         ensures shape { self.new.shape ≡ self.old.shape }
+        ensures counted { enqueues_of self.new.enqueues.items caller ≡ enqueue_count ops }
+        ensures others { (c : ℕ) → c ≢ caller → enqueues_of self.new.enqueues.items c ≡ enqueues_of self.old.enqueues.items c }
     {
         let now = self.history.len();
         let batch = self.calls[caller as usize].mine.len() as u64;
@@ -112,6 +116,7 @@ impl Lists {
             puts.as_slice(),
         );
         self.copies[caller as usize] = copy;
+        self.enqueues[caller as usize] = counts.enqs;
         let call = &mut self.calls[caller as usize];
         call.begin(point, ops, puts, now);
     }
@@ -126,6 +131,9 @@ impl Lists {
         ensures spent { (result ≡ Ok Started.Spent) ↔ PassesAllowance (lane_sizes self.old.shape) (callers_of self.old.calls.items caller) (length ops.now) }
         ensures running { (result ≡ Ok Started.Running) → state_of self.new ≡ start (lane_sizes self.old.shape) (state_of self.old) caller ops.now }
         ensures refusal { result ≢ Ok Started.Running → state_of self.new ≡ state_of self.old }
+        ensures counted { (result ≡ Ok Started.Running) → enqueues_of self.new.enqueues.items caller ≡ enqueue_count ops.now }
+        ensures others { (c : ℕ) → c ≢ caller → enqueues_of self.new.enqueues.items c ≡ enqueues_of self.old.enqueues.items c }
+        ensures refusal_counts_nothing { result ≢ Ok Started.Running → self.new.enqueues ≡ self.old.enqueues }
         ensures sound { IsSound self.new }
         ensures shape { self.new.shape ≡ self.old.shape }
     {

@@ -4,6 +4,7 @@ use Rattle.std.specs.List.{AllZip}
 use Rattle.job_lanes.specs.Seats.{seat}
 use Rattle.job_lanes.specs.Rest.{IsAtRest}
 use Rattle.bulk_dispatcher.specs.Hands.{HandRan}
+use Rattle.bulk_dispatcher.specs.Stops.{HandStopped, AtWork}
 use Rattle.bulk_dispatcher.proofs.Ranks.{one_more, all_but_one}
 use Rattle.bulk_dispatcher.proofs.beside.+hands.Goals as goal
 
@@ -26,5 +27,5 @@ returns-clause-ran g t c =
     let lane = g.L.Lane in
     one_more (λ n run. (map (λ s. seat (lane.pass_identity s.pass) (lane.pass_shape s.pass) (lane.callers s.pass)) run.desk.sessions.items ≡ map (λ x. seat (lane.identity x) (lane.lane_shape x) (n ∷ [])) c.args.lanes.now)
     × AllZip (λ number s. IsAtRest number n s) c.args.numbers.now run.desk.sessions.items
-    × HandRan c.args.numbers.now c.args.jobs.now c.args.hands c.args.batch n (map (λ s. lane.seen s.pass) run.desk.sessions.items) run.replies.items)
+    × AtWork run.work (HandRan c.args.numbers.now c.args.jobs.now c.args.hands c.args.batch n (map (λ s. lane.seen s.pass) run.desk.sessions.items) run.replies.items) (HandStopped c.args.numbers.now c.args.jobs.now c.args.hands n (map (λ s. lane.seen s.pass) run.desk.sessions.items)))
     c.len.result c.in_ok-runs.runs.items c.push.new.self.items c.in_ok-run.run' (search rules) (search rules) (search rules) (search rules)

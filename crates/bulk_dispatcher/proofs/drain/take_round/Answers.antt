@@ -1,15 +1,10 @@
-use Rattle.std.proofs.Common.{◌≡◌, ◌++◌, ◌∷◌, ℕ, List, [], length, replicate, refl, ap, subst, ◌∙◌, arith, length-append, inl, inr}
+use Rattle.std.proofs.Common.{◌≡◌, ◌++◌, List, length, replicate, ap, ◌∙◌, arith, length-append}
 use Rattle.std.proofs.lemmas.List.{length-replicate}
 use Rattle.bq_model.specs.declared.op.Op.{Op}
 use Rattle.bq_model.specs.declared.op.Op.TheVariants.{Deq}
-use Rattle.bq_model.specs.declared.group.Group.{Group}
-use Rattle.bq_model.specs.Grows.{SawMore}
-use Rattle.bq_model.proofs.Growing.{SawMore-refl}
 use Rattle.hand_tickets.proofs.Holding.{held-count}
-use Rattle.bulk_dispatcher.specs.declared.reply.Reply.{Reply}
-use Rattle.bulk_dispatcher.specs.Rounds.{RoundMade}
-use Rattle.bulk_dispatcher.proofs.Rounds.{start_pending, pending_own, round_from, at_some, at_none}
-use Rattle.bulk_dispatcher.proofs.Places.{if_ok_then}
+use Rattle.bulk_dispatcher.specs.declared.round.Round.TheVariants as round
+use Rattle.bulk_dispatcher.proofs.Rounds.{start_pending, pending_own, came_from, dequeues_none}
 use Rattle.bulk_dispatcher.proofs.drain.take_round.Goals as goal
 
 pub defer_dequeues-requires-clause-holds : goal.defer_dequeues-requires-clause-holds
@@ -29,42 +24,34 @@ make_round-requires-clause-some g c κs within =
 pub make_round-requires-clause-holds : goal.make_round-requires-clause-holds
 make_round-requires-clause-holds g c κs within = pending_own c.defer_dequeues.new.session c.defer_dequeues.ensures.holds
 
-pub returns-in-Some-clause-made : goal.returns-in-Some-clause-made
-returns-in-Some-clause-made g c =
+pub returns-in-Made-clause-made : goal.returns-in-Made-clause-made
+returns-in-Made-clause-made g c =
     let lane = g.L.Lane in
-    let number = c.args.session.now.futures.lane in
-    let caller = c.args.session.now.futures.caller in
     let one = c.defer_dequeues.new.session in
     let pending = c.defer_dequeues.ensures.holds in
-    let saw : lane.seen one.pass ≡ lane.seen c.args.session.now.pass = ap lane.seen c.defer_dequeues.ensures.pass_stays in
     let ops : one.pending ≡ replicate c.args.batch Deq = pending.pending ∙ ap (λ (os : List Op). os ++ replicate c.args.batch Deq) c.requires.holds.pending in
-    record {
-      ops = replicate c.args.batch Deq;
-      dequeues = inl refl;
-      middle = lane.seen c.args.session.now.pass;
-      more = SawMore-refl caller (lane.seen c.args.session.now.pass);
-      round = round_from c.args.jobs.now number caller one.futures.lane one.futures.caller one.pending (replicate c.args.batch Deq) (lane.seen one.pass) (lane.seen c.args.session.now.pass) (lane.seen c.make_round.new.session.pass) c.args.replies.now.items c.make_round.new.replies.items c.in-Some.empty (at_some (λ empty. RoundMade c.args.jobs.now one.futures.lane one.futures.caller one.pending (lane.seen one.pass) (lane.seen c.make_round.new.session.pass) c.args.replies.now.items c.make_round.new.replies.items empty) _ c.in_ok-empty.field-0 c.in-Some.empty c.in-Some.is c.in_ok-empty.ensures.made) pending.lane pending.caller ops saw;
-    }
+    let came = came_from (lane.lane_shape c.args.lane.now) c.args.jobs.now c.args.session.now.futures.lane c.args.session.now.futures.caller one.futures.lane one.futures.caller one.pending (replicate c.args.batch Deq) (lane.seen one.pass) (lane.seen c.args.session.now.pass) (lane.seen c.make_round.new.session.pass) c.args.replies.now.items c.make_round.new.replies.items
+    c.in_ok-came.came (round.Made c.in-Made.empty) c.in_ok-came.ensures.came pending.lane pending.caller ops (ap lane.seen c.defer_dequeues.ensures.pass_stays) c.in-Made.is in
+    (came.0, (let within = came.1 in let many = length-replicate c.args.batch Deq in omega (arith, within, many)))
 
-pub returns-in-None-clause-made : goal.returns-in-None-clause-made
-returns-in-None-clause-made g c =
+pub returns-in-Spent-clause-made : goal.returns-in-Spent-clause-made
+returns-in-Spent-clause-made g c =
     let lane = g.L.Lane in
-    let number = c.args.session.now.futures.lane in
-    let caller = c.args.session.now.futures.caller in
     let one = c.defer_dequeues.new.session in
     let pending = c.defer_dequeues.ensures.holds in
-    let saw : lane.seen one.pass ≡ lane.seen c.args.session.now.pass = ap lane.seen c.defer_dequeues.ensures.pass_stays in
     let ops : one.pending ≡ replicate c.args.batch Deq = pending.pending ∙ ap (λ (os : List Op). os ++ replicate c.args.batch Deq) c.requires.holds.pending in
-    let two = c.make_round.new.session in
-    let three = c.dequeue_round.new.session in
-    let rests = c.in_ok-empty.ensures.holds in
-    let refused = at_none (λ empty. RoundMade c.args.jobs.now one.futures.lane one.futures.caller one.pending (lane.seen one.pass) (lane.seen two.pass) c.args.replies.now.items c.make_round.new.replies.items empty) _ c.in_ok-empty.field-0 c.in-None.is c.in_ok-empty.ensures.made in
-    let more : SawMore caller (lane.seen c.args.session.now.pass) (lane.seen two.pass) = subst (λ (h : List Group). SawMore caller h (lane.seen two.pass)) saw (subst (λ (n : ℕ). SawMore n (lane.seen one.pass) (lane.seen two.pass)) pending.caller refused.0) in
-    if_ok_then c.dequeue_round.result (λ empty made. record {
-      ops = Deq ∷ [];
-      dequeues = inr refl;
-      middle = lane.seen two.pass;
-      more = more;
-      round = subst (λ (rs : List Reply). RoundMade c.args.jobs.now number caller (Deq ∷ []) (lane.seen two.pass) (lane.seen three.pass) rs c.dequeue_round.new.replies.items empty) refused.1
-          (round_from c.args.jobs.now number caller two.futures.lane two.futures.caller (Deq ∷ []) (Deq ∷ []) (lane.seen two.pass) (lane.seen two.pass) (lane.seen three.pass) c.make_round.new.replies.items c.dequeue_round.new.replies.items empty made (rests.lane ∙ pending.lane) (rests.caller ∙ pending.caller) refl refl);
-    }) c.dequeue_round.ensures.made
+    came_from (lane.lane_shape c.args.lane.now) c.args.jobs.now c.args.session.now.futures.lane c.args.session.now.futures.caller one.futures.lane one.futures.caller one.pending (replicate c.args.batch Deq) (lane.seen one.pass) (lane.seen c.args.session.now.pass) (lane.seen c.make_round.new.session.pass) c.args.replies.now.items c.make_round.new.replies.items
+    c.in_ok-came.came round.Spent c.in_ok-came.ensures.came pending.lane pending.caller ops (ap lane.seen c.defer_dequeues.ensures.pass_stays) c.in-Spent.is
+
+-- a batch of dequeues alone is never refused with Full
+pub unreachable-requires : goal.unreachable-requires
+unreachable-requires g c =
+    let lane = g.L.Lane in
+    let one = c.defer_dequeues.new.session in
+    let pending = c.defer_dequeues.ensures.holds in
+    let ops : one.pending ≡ replicate c.args.batch Deq = pending.pending ∙ ap (λ (os : List Op). os ++ replicate c.args.batch Deq) c.requires.holds.pending in
+    let came = came_from (lane.lane_shape c.args.lane.now) c.args.jobs.now c.args.session.now.futures.lane c.args.session.now.futures.caller one.futures.lane one.futures.caller one.pending (replicate c.args.batch Deq) (lane.seen one.pass) (lane.seen c.args.session.now.pass) (lane.seen c.make_round.new.session.pass) c.args.replies.now.items c.make_round.new.replies.items
+    c.in_ok-came.came round.Full c.in_ok-came.ensures.came pending.lane pending.caller ops (ap lane.seen c.defer_dequeues.ensures.pass_stays) c.in-Full.is in
+    let none = ap length (dequeues_none c.args.batch) in
+    let some = came.2 in
+    absurd (omega (arith, some, none))

@@ -1,62 +1,61 @@
-use Rattle.std.proofs.Common.{◌≡◌, ℕ, ◌∷◌, List, Err, sym, ap, subst, ◌∙◌}
-use Rattle.bq_model.specs.Grows.{SawMore}
-use Rattle.bq_model.proofs.Growing.{SawMore-trans}
-use Rattle.bq_session.specs.declared.ticket.Ticket.{Ticket}
+use Rattle.std.proofs.Common.{◌≡◌, ◌≢◌, ℕ, ◌<◌, ◌≤◌, Result, Ok, Err, IfOk, OnOk, IfErr, OnErr, ap, arith}
+use Rattle.bq_session.specs.declared.claim.Outcome.{Outcome}
+use Rattle.bq_session.specs.declared.error.EvalFault.{EvalFault}
+use Rattle.bq_session.specs.declared.error.EvalFault.TheVariants as fault
 use Rattle.bq_session.specs.declared.future.Standing.TheVariants.{Pending, Withdrawn}
-use Rattle.bq_session.specs.Session.{SessionState, GivesBack}
 use Rattle.bq_session.proofs.Pending.{stands_once}
-use Rattle.hand_tickets.specs.Holds.{HoldsPending}
-use Rattle.hand_tickets.proofs.Holding.{held-same, first_pending, held-made, made_later}
+use Rattle.hand_tickets.proofs.Holding.{first_pending, held-made}
 use Rattle.hand_tickets.proofs.tickets.make_all.Goals as goal
 
--- what is held stays where a call was refused
-still_held : {P : Type 0} {number c : ℕ} (ops : _) (t u : Ticket) (ts : List Ticket) (old new : SessionState P) → HoldsPending number c ops (t ∷ ts) old → new ≡ record old { pass = new.pass } → u ≡ t → HoldsPending number c ops (u ∷ ts) new
-still_held {number = number} {c = c} ops t u ts old new h e same =
-    subst (λ (v : Ticket). HoldsPending number c ops (v ∷ ts) new) (sym same) (held-same old new h (ap (λ (s : SessionState _). s.pending) e) (ap (λ (s : SessionState _). s.futures) e))
+in_ok : {A D : Outcome → Type 0} {B C : Type 0} (r : Result Outcome EvalFault) → ((o : Outcome) → A o → B → C → D o) → IfOk r A → OnOk r B → OnOk r C → IfOk r D
+in_ok (Ok o) f a b c = f o a b c
+in_ok (Err e) f a b c = tt
+
+not_passed : (r : Result Outcome EvalFault) (f : EvalFault) (a b : ℕ) → (b < a → r ≡ Err f) → OnOk r (a ≤ b)
+not_passed (Ok o) f a b h = let not : (b < a → ⊥) = (λ l. cc (h l)) in omega (arith, not)
+not_passed (Err e) f a b h = tt
+
+in_err : {A B : EvalFault → Type 0} (r : Result Outcome EvalFault) → ((f : EvalFault) → A f → f ≢ fault.Withdrawn → B f) → IfErr r A → (r ≡ Err fault.Withdrawn → ⊥) → IfErr r B
+in_err (Ok o) g a h = tt
+in_err (Err e) g a h = g e a (λ same. h (ap (λ f. Err f) same))
+
+on_err : {A : EvalFault → Type 0} {B : Type 0} (r : Result Outcome EvalFault) → ((f : EvalFault) → A f → f ≢ fault.Withdrawn → B) → IfErr r A → (r ≡ Err fault.Withdrawn → ⊥) → OnErr r B
+on_err (Ok o) g a h = tt
+on_err (Err e) g a h = g e a (λ same. h (ap (λ f. Err f) same))
 
 pub evaluate-requires-clause-owned : goal.evaluate-requires-clause-owned
-evaluate-requires-clause-owned g c κs within =
-    let h = still_held c.args.session.now.pending c.args.ticket c.loop.ticket c.args.held.now.items c.args.session.now c.loop.session c.requires.holds c.loop.invariant.same c.loop.invariant.ticket in
-    (Pending 0, first_pending c.loop.session h)
+evaluate-requires-clause-owned g c κs within = (Pending 0, first_pending c.args.session.now c.requires.holds)
 
-pub returns-in-Ok-clause-made : goal.returns-in-Ok-clause-made
-returns-in-Ok-clause-made g c =
+pub returns-clause-made : goal.returns-clause-made
+returns-clause-made g c =
     let lane = g.L.Lane in
-    let h = still_held c.args.session.now.pending c.args.ticket c.loop.ticket c.args.held.now.items c.args.session.now c.loop.session c.requires.holds c.loop.invariant.same c.loop.invariant.ticket in
-    let stands = first_pending c.loop.session h in
-    made_later (lane.seen c.args.session.now.pass) (lane.seen c.loop.session.pass) (lane.seen c.evaluate.new.self.pass) c.loop.invariant.more
-    (held-made c.args.session.now.futures.lane c.args.session.now.futures.caller c.args.session.now.pending c.loop.ticket c.args.held.now.items c.in-Ok.outcome (lane.seen c.loop.session.pass) (lane.seen c.evaluate.new.self.pass) c.loop.session c.evaluate.new.self h
-    (c.in-Ok.ensures.makes_what_is_pending 0 stands) (c.in-Ok.ensures.nothing_pending (0, stands)) c.in-Ok.ensures.counted)
+    let stands = first_pending c.args.session.now c.requires.holds in
+    in_ok c.evaluate.result
+    (λ o made none counted. held-made c.args.session.now.futures.lane c.args.session.now.futures.caller c.args.session.now.pending c.args.ticket c.args.held.now.items o (lane.seen c.args.session.now.pass) (lane.seen c.evaluate.new.self.pass) c.args.session.now c.evaluate.new.self c.requires.holds made none counted)
+    (c.evaluate.ensures.makes_what_is_pending 0 stands) (c.evaluate.ensures.nothing_pending (0, stands)) c.evaluate.ensures.counted
 
-pub returns-in-Err-Full-clause-saw_more : goal.returns-in-Err-Full-clause-saw_more
-returns-in-Err-Full-clause-saw_more g c =
-    let lane = g.L.Lane in
-    let refused = c.in-Err-Full.ensures.refused (λ e. cc e) in
-    let caller : c.loop.session.futures.caller ≡ c.args.session.now.futures.caller = ap (λ (s : SessionState _). s.futures.caller) c.loop.invariant.same in
-    SawMore-trans c.args.session.now.futures.caller (lane.seen c.args.session.now.pass) (lane.seen c.loop.session.pass) (lane.seen c.evaluate.new.self.pass) c.loop.invariant.more
-    (subst (λ (n : ℕ). SawMore n (lane.seen c.loop.session.pass) (lane.seen c.evaluate.new.self.pass)) caller refused.0)
+pub returns-clause-within_allowance : goal.returns-clause-within_allowance
+returns-clause-within_allowance g c =
+    let stands = first_pending c.args.session.now c.requires.holds in
+    not_passed c.evaluate.result (fault.Spent c.args.ticket) _ _ (λ l. c.evaluate.ensures.spent.1 ((0, stands), l))
 
-pub loop-preserved : goal.loop-preserved
-loop-preserved g c =
-    let lane = g.L.Lane in
-    let kept = c.loop.invariant in
-    let refused = c.in-Err-Spent.ensures.refused (λ e. cc e) in
-    let caller : c.loop.session.futures.caller ≡ c.args.session.now.futures.caller = ap (λ (s : SessionState _). s.futures.caller) kept.same in
-    let stays = c.evaluate.ensures.pass_stays in
-    let back : c.in-Err-Spent.same ≡ c.loop.ticket = subst (λ f. GivesBack f c.loop.ticket) c.in-Err-Spent.field-0-is c.in-Err-Spent.ensures.ticket_comes_back in
-    record {
-      can = tt;
-      finite = tt;
-      ticket = back ∙ kept.ticket;
-      same = refused.1 ∙ (λ i. record { pass = c.evaluate.new.self.pass; pending = (kept.same i).pending; futures = (kept.same i).futures });
-      more = SawMore-trans c.args.session.now.futures.caller (lane.seen c.args.session.now.pass) (lane.seen c.loop.session.pass) (lane.seen c.evaluate.new.self.pass) kept.more
-          (subst (λ (n : ℕ). SawMore n (lane.seen c.loop.session.pass) (lane.seen c.evaluate.new.self.pass)) caller refused.0);
-      identity = stays.0 ∙ kept.identity;
-      shape = stays.1 ∙ kept.shape;
-      callers = stays.2 ∙ kept.callers;
-    }
+pub returns-clause-ticket : goal.returns-clause-ticket
+returns-clause-ticket g c =
+    let stands = first_pending c.args.session.now c.requires.holds in
+    in_err c.evaluate.result (λ f gives not. (gives, not)) c.evaluate.ensures.ticket_comes_back (λ e. cc (stands_once c.args.session.now.futures c.args.ticket (Pending 0) Withdrawn stands (c.evaluate.ensures.withdrawn.0 e)))
 
-pub unreachable-requires : goal.unreachable-requires
-unreachable-requires g c =
-    let h = still_held c.args.session.now.pending c.args.ticket c.loop.ticket c.args.held.now.items c.args.session.now c.loop.session c.requires.holds c.loop.invariant.same c.loop.invariant.ticket in
-    cc (stands_once c.loop.session.futures c.loop.ticket (Pending 0) Withdrawn (first_pending c.loop.session h) (c.in-Err-Withdrawn.ensures.withdrawn.0 (ap (λ e. Err e) c.in-Err-Withdrawn.field-0-is)))
+pub returns-clause-saw_more : goal.returns-clause-saw_more
+returns-clause-saw_more g c =
+    let stands = first_pending c.args.session.now c.requires.holds in
+    on_err c.evaluate.result (λ f refused not. (refused not).0) c.evaluate.ensures.refused (λ e. cc (stands_once c.args.session.now.futures c.args.ticket (Pending 0) Withdrawn stands (c.evaluate.ensures.withdrawn.0 e)))
+
+pub returns-clause-all_stays : goal.returns-clause-all_stays
+returns-clause-all_stays g c =
+    let stands = first_pending c.args.session.now c.requires.holds in
+    on_err c.evaluate.result (λ f refused not. (refused not).1) c.evaluate.ensures.refused (λ e. cc (stands_once c.args.session.now.futures c.args.ticket (Pending 0) Withdrawn stands (c.evaluate.ensures.withdrawn.0 e)))
+
+pub returns-clause-spent : goal.returns-clause-spent
+returns-clause-spent g c = λ is. (c.evaluate.ensures.spent.0 is).1
+
+pub returns-clause-full : goal.returns-clause-full
+returns-clause-full g c = λ is. let full = c.evaluate.ensures.full is in (full.1, full.2)

@@ -1,7 +1,8 @@
 use Rattle.std.proofs.Common.{arith, ap, sym, subst, ◌∙◌, ◌≡◌, ℕ, ◌+◌, ◌-◌, ◌<◌, ◌≤◌, List, [], ◌∷◌, ◌++◌, length, length-append, IsErrOf, Err}
 use Rattle.bq_model.specs.declared.op.Op.{Op}
 use Rattle.bq_model.specs.Grows.{AtSomePoint}
-use Rattle.bq_model.specs.Rooms.{PassesAllowance}
+use Rattle.bq_model.specs.Rooms.{PassesAllowance, PassesRoom}
+use Rattle.bq_model.specs.Values.{enqueued}
 use Rattle.bq_session.specs.declared.claim.Outcome.{Outcome}
 use Rattle.bq_session.specs.declared.error.PlainFault.TheVariants as fault
 use Rattle.bq_session.specs.Faults.{plain_fault}
@@ -90,8 +91,8 @@ returns-in-Err-clause-spent g c =
 pub returns-in-Err-clause-full : goal.returns-in-Err-clause-full
 returns-in-Err-clause-full g c is =
     let shape = g.L.Lane.lane_shape c.args.lane.now in
-    let P : SessionState _ → Type 0 = λ s. AtSomePoint (λ point. g.L.Lane.may_fill shape point s.futures.caller (s.pending ++ c.args.op ∷ [])) (g.L.Lane.seen s.pass) (g.L.Lane.seen c.make_group-made.new.pass) in
-    let Q : List Op → Type 0 = λ ops. AtSomePoint (λ point. g.L.Lane.may_fill shape point c.self.inside.futures.caller ops) (g.L.Lane.seen c.self.inside.pass) (g.L.Lane.seen c.make_group-made.new.pass) in
+    let P : SessionState _ → Type 0 = λ s. (0 < length (enqueued (s.pending ++ c.args.op ∷ []))) × AtSomePoint (λ point. PassesRoom shape point s.futures.caller (s.pending ++ c.args.op ∷ [])) (g.L.Lane.seen s.pass) (g.L.Lane.seen c.make_group-made.new.pass) in
+    let Q : List Op → Type 0 = λ ops. (0 < length (enqueued ops)) × AtSomePoint (λ point. PassesRoom shape point c.self.inside.futures.caller ops) (g.L.Lane.seen c.self.inside.pass) (g.L.Lane.seen c.make_group-made.new.pass) in
     subst P c.self.view_is (subst Q c.push.ensures.appended (c.in-Err.ensures.full (ap (λ r. Err r) (full_is c.in-Err.refusal (sym c.into.ensures ∙ fault_is c.into.result _ is)))))
 
 pub returns-in-Err-clause-keeps : goal.returns-in-Err-clause-keeps

@@ -1,9 +1,9 @@
-use Rattle.std.proofs.Common.{◌<◌, ℕ, sym, ap, subst, ◌∙◌, arith}
-use Rattle.lane_steps.specs.LaneSizes.{lane_sizes}
+use Rattle.std.proofs.Common.{ℕ, sym, ap, subst, ◌∙◌, arith}
 use Rattle.lane_steps.specs.State.{Caller}
-use Rattle.core_model.specs.Few.{HasFew}
-use Rattle.core_model.specs.Lawful.{Lawful}
-use Rattle.core_model.proofs.Opens.{opens}
+use Rattle.lane_room.specs.Roomy.{Roomy}
+use Rattle.lane_room.proofs.Roomy.{roomy_opens}
+use Rattle.step_core.specs.Refused.{enqueues_of, KnowsWhy}
+use Rattle.step_core.proofs.Refusals.{why_new}
 use Rattle.step_core.specs.Words.{opening_words, sizes_for}
 use Rattle.step_core.proofs.Openings.{newcomers, nothing_due}
 use Rattle.step_core.proofs.lists.Lists.new.Goals as goal
@@ -14,12 +14,13 @@ returns-clause-opening c = let words = c.in_ok-words.ensures.opening ∙ ap open
 
 pub returns-clause-sound : goal.returns-clause-sound
 returns-clause-sound c = let none = nothing_due c.in_ok-calls.calls.items c.in_ok-calls.ensures.newcomers in record {
-  lawful = subst (Lawful (lane_sizes c.args.shape)) (sym (returns-clause-opening c)) (opens c.args.shape);
+  roomy = subst (Roomy c.args.shape) (sym (returns-clause-opening c)) (roomy_opens c.args.shape);
   sizes = c.in_ok-words.ensures.sizes ∙ (λ i. sizes_for (c.rows.ensures i) (c.anns.ensures i) (c.callers.ensures i));
   calls = c.in_ok-calls.ensures.len;
   copies = c.in_ok-copies.ensures.len ∙ c.callers-2.ensures;
   ready = c.in_ok-calls.ensures.ready;
-  few = λ d known. subst (HasFew c.args.shape d) (sym (ap (λ (f : ℕ → Caller). f d) (newcomers c.in_ok-calls.calls.items c.in_ok-calls.ensures.newcomers))) (let some : 0 < c.args.shape.callers = omega arith in some);
   reserved = omega arith;
   copied = λ d runs. absurd (runs (ap (λ (f : ℕ → Caller). (f d).point) (newcomers c.in_ok-calls.calls.items c.in_ok-calls.ensures.newcomers)));
+  numbers = c.in_ok-enqueues.ensures.len ∙ c.callers-3.ensures;
+  why = λ d. subst (λ (f : ℕ → Caller). KnowsWhy c.args.shape.room c.new-2.result.items d (f d) (enqueues_of c.in_ok-enqueues.enqueues.items d)) (sym (newcomers c.in_ok-calls.calls.items c.in_ok-calls.ensures.newcomers)) (why_new c.args.shape.room c.new-2.result.items d _);
 }

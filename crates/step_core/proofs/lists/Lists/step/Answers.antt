@@ -71,6 +71,7 @@ returns-clause-sound c = let a = c.args.self.now in let d = c.add_group.new.self
     (ap sizes_of (c.go.ensures.rest.1 ∙ c.add_group.ensures.words) ∙ c.write.ensures.sizes_stay)
     (c.go.ensures.len ∙ ap (λ (v : Vec Call Global). vec_len v) c.add_group.ensures.calls_stay)
     (ap (λ (v : Vec (List Op) Global). vec_len v) c.go.ensures.rest.3 ∙ c.add_group.ensures.copies_len)
+    (c.go.ensures.rest.4 ∙ c.add_group.ensures.enqueues_stay)
     (subst (λ (z : Shape). All (IsReady z.batch z.callers) e.calls.items) c.add_group.ensures.shape c.go.ensures.ready)
     (ap (λ (v : Vec Group Global). vec_capacity v) c.go.ensures.rest.2 ∙ c.add_group.ensures.capacity)
     (λ other apart. ap (λ (v : Vec (List Op) Global). copy_at v.items other) c.go.ensures.rest.3 ∙ c.add_group.ensures.others other apart)
