@@ -19,11 +19,11 @@ use Rattle.lane_steps.specs.declared.point.Closing.{Closing}
 use Rattle.lane_steps.specs.declared.point.Closing.TheVariants.{Plain, Batch, Full}
 use Rattle.lane_steps.specs.Close.{is_done}
 use Rattle.lane_steps.specs.Answers.{closing_answers}
-use Rattle.bq_lane.specs.declared.next.Next.{Next}
-use Rattle.bq_lane.specs.declared.next.Next.TheVariants.{Goes, Ends}
-use Rattle.bq_lane.specs.declared.scratch.Scratch.{Scratch}
-use Rattle.bq_lane.specs.Running.{Running, GoesTo, HasEnded, EndsTo, EndsSo, Ended, IsNext, group_of, begun_seat}
-use Rattle.bq_lane.proofs.Continues.{ends_then}
+use Rattle.lane_course.specs.declared.next.Next.{Next}
+use Rattle.lane_course.specs.declared.next.Next.TheVariants.{Goes, Ends}
+use Rattle.lane_course.specs.declared.scratch.Scratch.{Scratch}
+use Rattle.lane_course.specs.Running.{Running, GoesTo, HasEnded, EndsTo, EndsSo, Ended, IsNext, group_of, begun_seat}
+use Rattle.lane_course.proofs.Continues.{ends_then}
 use Rattle.bq_lane.specs.Applied.{Rested, Applied, Called}
 use Rattle.bq_lane.proofs.Refusals.{at_moment}
 

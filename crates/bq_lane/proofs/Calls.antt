@@ -17,7 +17,7 @@ use Rattle.lane_steps.specs.State.{Caller}
 use Rattle.lane_rule.specs.declared.view.View.{View}
 use Rattle.lane_rule.specs.Plays.{IsIdle}
 use Rattle.bq_lane.specs.Applied.{Applied, Refused}
-use Rattle.bq_lane.specs.declared.scratch.Scratch.{Scratch}
+use Rattle.lane_course.specs.declared.scratch.Scratch.{Scratch}
 use Rattle.bq_lane.specs.Pass.{PassState, callers_of, Counted, Rests}
 use Rattle.bq_lane.proofs.Passes.{its, own, spent_is, the_caller_is}
 use Rattle.bq_lane.proofs.Commands.{may_begin}

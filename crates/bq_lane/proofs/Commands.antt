@@ -30,11 +30,11 @@ use Rattle.lane_rule.specs.Rule.{caller_of}
 use Rattle.lane_rule.specs.Seating.{held_as, Holds, Idles}
 use Rattle.lane_rule.proofs.FirstPoints.{first_ready}
 use Rattle.bq_lane.specs.Applied.{Rested, Applied, Refused}
-use Rattle.bq_lane.specs.Running.{Agrees}
-use Rattle.bq_lane.specs.Scratch.{keeping, SameRoom}
-use Rattle.bq_lane.specs.declared.scratch.Scratch.{Scratch}
+use Rattle.lane_course.specs.Running.{Agrees}
+use Rattle.lane_course.specs.Scratch.{keeping, SameRoom}
+use Rattle.lane_course.specs.declared.scratch.Scratch.{Scratch}
 use Rattle.bq_lane.specs.Pass.{callers_of, Counted, Rests}
-use Rattle.bq_lane.proofs.Advances.{reserved}
+use Rattle.lane_course.proofs.Advances.{reserved}
 use Rattle.bq_lane.proofs.Passes.{alone, its, idle}
 
 pub some_operation : (ops : List Op) → ops ≢ [] → 0 < length ops

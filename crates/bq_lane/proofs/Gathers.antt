@@ -14,7 +14,7 @@ use Rattle.lane_rule.specs.Rule.{Begins}
 use Rattle.lane_rule.specs.Plays.{IsWhole}
 use Rattle.lane_rule.specs.Seating.{held_as, Holds, Idles}
 use Rattle.bq_model.specs.Proper.{IsProper}
-use Rattle.bq_lane.specs.declared.scratch.Scratch.{Scratch}
+use Rattle.lane_course.specs.declared.scratch.Scratch.{Scratch}
 use Rattle.bq_lane.specs.Pass.{callers_of, Rests}
 
 -- one of the callers has something kept of it

@@ -9,8 +9,8 @@ use Rattle.bq_model.specs.Own.{mine, next_group}
 use Rattle.bq_model.specs.Grows.{Grew}
 use Rattle.bq_model.specs.Replay.{answers_from}
 use Rattle.lane_rule.specs.declared.view.View.{View}
-use Rattle.bq_lane.specs.Running.{group_of}
-use Rattle.bq_lane.specs.declared.scratch.Scratch.{Scratch}
+use Rattle.lane_course.specs.Running.{group_of}
+use Rattle.lane_course.specs.declared.scratch.Scratch.{Scratch}
 use Rattle.bq_lane.specs.Applied.{Applied}
 
 module _ {A : Type 0} where

@@ -1,17 +1,4 @@
 -- Lemmas on the definitions of specs/, in files named for their topics.
-pub mod Losing
-pub mod Advances
-pub mod Continues
-pub mod Seeks
-pub mod Ways
-pub mod Finishes
-pub mod Dequeues
-pub mod Single
-pub mod Links
-pub mod RowSteps
-pub mod Helps
-pub mod Puts
-pub mod Begins
 pub mod Applies
 pub mod Enqueued
 pub mod Makes

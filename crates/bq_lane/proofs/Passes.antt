@@ -15,7 +15,7 @@ use Rattle.lane_rule.specs.declared.view.Kind.{Kind}
 use Rattle.lane_rule.specs.declared.view.Kind.TheVariants.{Maker, Alone, Gathered, Spent}
 use Rattle.lane_rule.specs.declared.view.View.{View}
 use Rattle.lane_rule.specs.Seating.{held_as, Holds, Idles}
-use Rattle.bq_lane.specs.declared.scratch.Scratch.{Scratch}
+use Rattle.lane_course.specs.declared.scratch.Scratch.{Scratch}
 use Rattle.bq_lane.specs.Pass.{callers_of, Counted, Rests}
 
 -- a view of one caller alone has that one

@@ -15,8 +15,8 @@ use Rattle.lane_rule.specs.declared.view.Kind.TheVariants.{Alone}
 use Rattle.bq_model.specs.Grows.{AtSomePoint}
 use Rattle.bq_model.specs.Rooms.{PassesRoom}
 use Rattle.bq_model.specs.Values.{enqueued}
-use Rattle.bq_lane.specs.declared.scratch.Scratch.{Scratch}
-use Rattle.bq_lane.specs.Running.{Agrees, Same, group_of}
+use Rattle.lane_course.specs.declared.scratch.Scratch.{Scratch}
+use Rattle.lane_course.specs.Running.{Agrees, Same, group_of}
 
 -- The caller is idle, and has seen the history. This is left at hand.
 pub record Rested (p : Seat ℕ View) (a : Scratch) (q : Seat ℕ View) : Type 0 where

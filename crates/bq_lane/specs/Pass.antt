@@ -15,9 +15,9 @@ use Rattle.lane_rule.specs.declared.view.Kept.{Kept}
 use Rattle.lane_rule.specs.declared.view.View.{View}
 use Rattle.lane_rule.specs.declared.view.Kind.TheVariants.{Alone, Gathered}
 use Rattle.lane_rule.specs.Seating.{held_as, Holds, Idles}
-use Rattle.bq_lane.specs.declared.scratch.Scratch.{Scratch}
-use Rattle.bq_lane.specs.Running.{Agrees}
-use Rattle.bq_lane.specs.Scratch.{Reserves}
+use Rattle.lane_course.specs.declared.scratch.Scratch.{Scratch}
+use Rattle.lane_course.specs.Running.{Agrees}
+use Rattle.lane_course.specs.Scratch.{Reserves}
 
 -- a lane: its table and its shape
 pub record LaneState : Type 0 where

@@ -9,26 +9,25 @@ ghost use Rattle.lane_steps.specs.declared.point.Point.TheVariants.{Dequeue};
 ghost use Rattle.lane_steps.specs.declared.point.DequeuePoint.TheVariants.{LoadHead};
 ghost use Rattle.lane_rule.specs.Plays.{IsIdle};
 ghost use Rattle.bq_lane.specs.Applied.{Called};
-ghost use Rattle.bq_lane.specs.Running.{Agrees, Running, Ended, IsNext, begun_seat};
-ghost use Rattle.bq_lane.specs.Scratch.{Reserves, SameRoom, SamePuts};
+ghost use Rattle.lane_course.specs.Running.{Agrees, Running, Ended, IsNext, begun_seat};
+ghost use Rattle.lane_course.specs.Scratch.{Reserves, SameRoom, SamePuts};
 
-use crate::answer_way::read_answers;
-use crate::dequeue::{dequeue_first, dequeue_on};
-use crate::finish::finish_at;
-use crate::help_way::{help_found, help_on};
-use crate::many_way::dequeue_many;
-use crate::next::{Next, follow};
-use crate::put::{link, put_into};
-use crate::scratch::Scratch;
 use crate::seek::seek;
+use batch_ways::{announce_alone, fill_first, fill_from, install, stop_from};
 use bq_model::{Answers, Op, Shape};
 use excess_count::pair;
+use help_ways::{
+    dequeue_many, dequeue_many_first, dequeue_many_on, help_found, help_on, read_answers,
+};
+use lane_course::{Next, Scratch, follow};
 use lane_rule::{Command, Token, Words, first_step, step};
 use lane_steps::{
-    AnswerPoint, Closing, DequeuePoint, EnqueuePoint, GuardPoint, Guarding, HelpPoint, Item, Point,
-    TakePoint, Taking,
+    AnswerPoint, BatchPoint, Closing, DequeuePoint, EnqueuePoint, GuardPoint, Guarding, HelpPoint,
+    Item, ManyPoint, Point, TakePoint, Taking,
 };
+use plain_ways::{dequeue_first, dequeue_on, finish_at, link, put_first, put_into};
 use std::marker::Brand;
+use word_rows::AnnField;
 
 // The next step of the running command, or all those of the way that it is on.
 fn advance(
@@ -50,12 +49,19 @@ fn advance(
         Point::Take(Taking::Enqueue(value), TakePoint::ClearMark { row }) => {
             put_into(words, shape, caller, token, Item { row, value }, scratch)
         }
+        Point::Take(Taking::Batch(notice, value), TakePoint::ClearMark { row }) => {
+            fill_from(words, shape, caller, token, notice, value, row, scratch)
+        }
+        Point::Take(Taking::Stopper(notice), TakePoint::ClearMark { row }) => {
+            stop_from(words, shape, caller, token, notice, row, scratch)
+        }
         Point::Enqueue(item, EnqueuePoint::LoadTail) => {
             link(words, shape, caller, token, item, scratch)
         }
         Point::Dequeue(DequeuePoint::LoadHead) => dequeue_on(words, shape, caller, token, scratch),
         Point::Close(closing, point) => {
-            finish_at(words, shape, caller, token, closing, point, scratch)
+            finish_at(words, shape, caller, token, closing, point, scratch);
+            Next::Ends(closing)
         }
         Point::Guard(Guarding::Help(help), GuardPoint::StoreHazard) => {
             help_found(words, shape, caller, token, help, scratch)
@@ -63,11 +69,21 @@ fn advance(
         Point::Guard(Guarding::Many(plan), GuardPoint::StoreHazard) => {
             dequeue_many(words, shape, caller, token, &plan, scratch)
         }
+        Point::Many(plan, ManyPoint::LoadHead) => {
+            dequeue_many_on(words, shape, caller, token, &plan, scratch)
+        }
         Point::Help(help, HelpPoint::LoadTail) => {
             help_on(words, shape, caller, token, &help, scratch)
         }
         Point::Answer(AnswerPoint::LoadOldTail(help)) => {
             read_answers(words, shape, caller, token, &help, scratch)
+        }
+        Point::Batch(draft, BatchPoint::LoadHead) if 0 < draft.notice.counts.enqs => {
+            install(words, shape, caller, token, draft, scratch)
+        }
+        Point::Batch(draft, BatchPoint::StoreAll(AnnField::OldHead))
+            if draft.notice.counts.enqs == 0 => {
+            announce_alone(words, shape, caller, token, &draft, scratch)
         }
         _ => {
             let found = step(words, shape, caller, token, point);
@@ -77,7 +93,7 @@ fn advance(
 }
 
 // The start of a command that begins at this point, with its first step.
-fn begin<C: Command>(
+fn begin_step<C: Command>(
     words: &Words,
     shape: &Shape,
     caller: u32,
@@ -100,6 +116,47 @@ fn begin<C: Command>(
 {
     let found = first_step::<C>(words, shape, caller, token, point);
     follow(shape, caller, point, found, scratch)
+}
+
+// The same, with all steps of the way that it is on.
+fn begin<C: Command>(
+    words: &Words,
+    shape: &Shape,
+    caller: u32,
+    token: &mut Token,
+    point: Point,
+    ops: &[Op],
+    scratch: &mut Scratch,
+) -> Next
+    requires command { C.ops ≡ ops.now }
+    requires idle { IsIdle words.now.table_id words.now.key shape.now caller C.ops point token.old }
+    requires known { caller < shape.now.callers }
+    requires puts { scratch.old.puts.items ≡ enqueued C.ops }
+    requires agrees { (n : ℕ) → Agrees (begun_seat token.old n C.ops).me.0.kept scratch.old }
+    requires reserves { Reserves shape.now scratch.old }
+    requires few { length token.old.me.0.kept.retired < shape.now.callers }
+    requires apart { Distinct token.old.me.0.kept.retired }
+    ensures next { (n : ℕ) × (length token.old.me.0.seen ≤ n)
+        × IsNext words.now.table_id words.now.key shape.now caller scratch.new (begun_seat token.old n C.ops) token.new result }
+    ensures same { SamePuts scratch.old scratch.new }
+{
+    match point {
+        Point::Take(Taking::Enqueue(value), TakePoint::LoadMark { row, left }) => {
+            put_first::<C>(words, shape, caller, token, value, row, left, scratch)
+        }
+        Point::Take(Taking::Batch(notice, value), TakePoint::LoadMark { row, left }) => {
+            fill_first::<C>(
+                words, shape, caller, token, notice, value, row, left, scratch,
+            )
+        }
+        Point::Dequeue(DequeuePoint::LoadHead) => {
+            dequeue_first::<C>(words, shape, caller, token, scratch)
+        }
+        Point::Many(plan, ManyPoint::LoadHead) => {
+            dequeue_many_first::<C>(words, shape, caller, token, &plan, scratch)
+        }
+        _ => begin_step::<C>(words, shape, caller, token, point, ops, scratch),
+    }
 }
 
 /// Writes the answers of a command of these operations that has ended so, in place of what `out` had. Gives whether it was done.

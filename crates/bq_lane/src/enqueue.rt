@@ -1,78 +1,29 @@
-// A plain enqueue as a whole call: what it begins with, its first load, its steps and its answer.
-ghost use Rattle.std.specs.Prelude.{◌≡◌, ℕ, ◌+◌, ◌<◌, ◌≤◌, ◌^◌, ◌↔◌, [], ◌∷◌, length, get_or, vec_capacity, IsErrOf, OnOk, OnErr};
+// A plain enqueue as a whole call: what it begins with, its steps and its answer.
+ghost use Rattle.std.specs.Prelude.{◌≡◌, ℕ, ◌<◌, ◌↔◌, [], ◌∷◌, length, IsErrOf, OnOk, OnErr};
 ghost use Rattle.word_rows.specs.Sizes.{words_of};
 ghost use Rattle.bq_model.specs.declared.op.Op.{Op};
-ghost use Rattle.bq_model.specs.declared.op.Answer.{Answer};
 ghost use Rattle.bq_model.specs.Grows.{the_caller, Grew, SawMore, AtSomePoint};
 ghost use Rattle.bq_model.specs.Proper.{IsProper};
 ghost use Rattle.bq_model.specs.Rooms.{PassesAllowance, PassesRoom};
 ghost use Rattle.bq_model.specs.Values.{enqueued};
 ghost use Rattle.lane_steps.specs.Functions.{Distinct};
 ghost use Rattle.lane_steps.specs.LaneSizes.{lane_sizes};
-ghost use Rattle.lane_steps.specs.State.{Caller};
 ghost use Rattle.lane_steps.specs.Take.{search};
 ghost use Rattle.lane_steps.specs.declared.point.Taking.TheVariants as taking;
 ghost use Rattle.lane_rule.specs.Plays.{IsIdle};
 ghost use Rattle.bq_lane.specs.Applied.{Called};
-ghost use Rattle.bq_lane.specs.Running.{Agrees, IsNext, begun_seat};
-ghost use Rattle.bq_lane.specs.Scratch.{keeping, Reserves, SameRoom, SamePuts};
+ghost use Rattle.lane_course.specs.Running.{Agrees, begun_seat};
+ghost use Rattle.lane_course.specs.Scratch.{Reserves, SameRoom};
 
-use crate::close::close;
 use crate::drive::{answer, drive};
-use crate::next::Next;
 use crate::pass::Seated;
-use crate::put::{put, put_into};
-use crate::scratch::Scratch;
 use crate::start::lay_out;
 use bq_model::{Answers, Op, Refusal, Shape};
-use lane_rule::{Command, Token, Words, first_load};
-use lane_steps::{Closing, Item, Point, TakePoint, Taking, mark_in};
+use lane_course::{Next, Scratch};
+use lane_rule::{Token, Words};
+use plain_ways::put_first;
 use std::marker::Brand;
-use word_rows::{Location, item_row, items};
-
-// The start of the enqueue, with its first load.
-fn begin_put<C: Command>(
-    words: &Words,
-    shape: &Shape,
-    caller: u32,
-    token: &mut Token,
-    value: u64,
-    scratch: &mut Scratch,
-) -> Next
-    requires command { C.ops ≡ Op.Enq value ∷ [] }
-    requires idle { IsIdle words.now.table_id words.now.key shape.now caller C.ops (search (lane_sizes shape.now) caller (taking.Enqueue value)) token.old }
-    requires known { caller < shape.now.callers }
-    requires puts { scratch.old.puts.items ≡ enqueued C.ops }
-    requires agrees { (n : ℕ) → Agrees (begun_seat token.old n C.ops).me.0.kept scratch.old }
-    requires reserves { Reserves shape.now scratch.old }
-    requires few { length token.old.me.0.kept.retired < shape.now.callers }
-    requires apart { Distinct token.old.me.0.kept.retired }
-    ensures next { (n : ℕ) × (length token.old.me.0.seen ≤ n)
-        × IsNext words.now.table_id words.now.key shape.now caller scratch.new (begun_seat token.old n C.ops) token.new result }
-    ensures same { SamePuts scratch.old scratch.new }
-{
-    let row = item_row(shape, caller, 0);
-    let left = items(shape) - 1;
-    let point = Point::Take(Taking::Enqueue(value), TakePoint::LoadMark { row, left });
-    let mark = Location::Mark { row };
-    let found = first_load::<C>(words, shape, caller, token, point, mark);
-    if mark_in(found).free {
-        return put_into(words, shape, caller, token, Item { row, value }, scratch);
-    }
-    if left == 0 {
-        return close(Closing::Full, scratch);
-    }
-    put(
-        words,
-        shape,
-        caller,
-        token,
-        value,
-        row + 1,
-        left - 1,
-        scratch,
-    )
-}
+use word_rows::{item_row, items};
 
 // The whole enqueue of an idle caller. Gives whether it was done.
 fn perform_put(
@@ -97,7 +48,9 @@ fn perform_put(
     ensures room { SameRoom scratch.old scratch.new }
 {
     let ops = &[Op::Enq(value)];
-    match begin_put::<Brand>(words, shape, caller, token, value, scratch) {
+    let row = item_row(shape, caller, 0);
+    let left = items(shape) - 1;
+    match put_first::<Brand>(words, shape, caller, token, value, row, left, scratch) {
         Next::Goes(point) => drive(words, shape, caller, token, point, ops, scratch, out),
         Next::Ends(closing) => answer(closing, ops, scratch.values.as_slice(), out),
     }

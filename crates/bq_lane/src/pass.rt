@@ -8,8 +8,8 @@ ghost use Rattle.bq_model.specs.Grows.{the_caller, SawMore};
 ghost use Rattle.bq_lane.specs.Made.{first_view};
 ghost use Rattle.bq_lane.specs.Pass.{new_pass};
 
-use crate::scratch::Scratch;
 use bq_model::{Answers, OutOfMemory, Shape};
+use lane_course::Scratch;
 use lane_rule::{Token, Words, gather};
 use std::alloc::Global;
 use std::marker::Model;

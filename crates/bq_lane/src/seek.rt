@@ -1,55 +1,15 @@
-// The search for a free row: one loop over the marks of the own rows of a kind.
-ghost use Rattle.std.specs.Prelude.{◌<◌, IfSome, IfNone};
-ghost use Rattle.lane_steps.specs.Step.{closes};
-ghost use Rattle.lane_steps.specs.declared.point.Closing.TheVariants.{Full};
+// What follows the search for a free row, by what the row is for.
 ghost use Rattle.lane_steps.specs.declared.point.Point.TheVariants.{Take};
-ghost use Rattle.lane_steps.specs.declared.point.TakePoint.TheVariants.{LoadMark, ClearMark};
-ghost use Rattle.lane_rule.specs.Goes.{left_of};
-ghost use Rattle.bq_lane.specs.Along.{Along};
-ghost use Rattle.bq_lane.specs.Led.{Led};
-ghost use Rattle.bq_lane.specs.Running.{Running, IsNext};
-ghost use Rattle.bq_lane.specs.Scratch.{SamePuts};
+ghost use Rattle.lane_steps.specs.declared.point.TakePoint.TheVariants.{LoadMark};
+ghost use Rattle.lane_course.specs.Running.{Running, IsNext};
+ghost use Rattle.lane_course.specs.Scratch.{SamePuts};
 
-use crate::close::close;
-use crate::next::Next;
-use crate::put::put;
-use crate::scratch::Scratch;
+use batch_ways::{fill, stop};
 use bq_model::Shape;
-use lane_rule::{Token, Words, load};
-use lane_steps::{Closing, Point, TakePoint, Taking, mark_in};
-use word_rows::Location;
-
-/// The loads of a search for a free row, from this one on, with so many behind it. Gives the row, where one is free.
-#[inline(always)]
-pub fn find(
-    words: &Words,
-    shape: &Shape,
-    caller: u32,
-    token: &mut Token,
-    taking: Taking,
-    first: u32,
-    behind: u32,
-    scratch: &Scratch,
-) -> Option<u32>
-    requires { Running words.now.table_id words.now.key shape.now caller (Take taking (LoadMark first behind)) scratch.now token.old }
-    ensures found { IfSome result (λ row. Along words.now.table_id words.now.key shape.now caller (Take taking (ClearMark row)) scratch.now token.old token.new) }
-    ensures less { IfSome result (λ _. left_of token.new.me.0 < left_of token.old.me.0) }
-    ensures lacks { IfNone result (Led words.now.table_id words.now.key shape.now caller (λ n k. closes n caller k Full) scratch.now token.old token.new) }
-{
-    let mut row = first;
-    let mut left = behind;
-    'rows: loop {
-        let found = load(words, shape, token, Location::Mark { row });
-        if mark_in(found).free {
-            return Some(row);
-        }
-        if left == 0 {
-            return None;
-        }
-        row += 1;
-        left -= 1;
-    }
-}
+use lane_course::{Next, Scratch};
+use lane_rule::{Token, Words};
+use lane_steps::Taking;
+use plain_ways::{find, put};
 
 /// The steps of a command that searches for a free row, from this one on, with so many behind it.
 pub fn seek(
@@ -68,9 +28,11 @@ pub fn seek(
 {
     match taking {
         Taking::Enqueue(value) => put(words, shape, caller, token, value, first, behind, scratch),
-        _ => match find(words, shape, caller, token, taking, first, behind, scratch) {
-            Some(row) => Next::Goes(Point::Take(taking, TakePoint::ClearMark { row })),
-            None => close(Closing::Full, scratch),
-        },
+        Taking::Batch(notice, value) => fill(
+            words, shape, caller, token, notice, value, first, behind, scratch,
+        ),
+        Taking::Stopper(notice) => {
+            stop(words, shape, caller, token, notice, first, behind, scratch)
+        }
     }
 }

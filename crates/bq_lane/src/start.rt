@@ -3,10 +3,10 @@ ghost use Rattle.std.specs.Prelude.{◌≡◌, ℕ, ◌++◌, ◌+◌, ◌^◌, 
 ghost use Rattle.bq_model.specs.declared.op.Op.{Op};
 ghost use Rattle.bq_model.specs.Values.{enqueued};
 ghost use Rattle.lane_steps.specs.State.{Caller};
-ghost use Rattle.bq_lane.specs.Scratch.{keeping, SameRoom};
+ghost use Rattle.lane_course.specs.Scratch.{keeping, SameRoom};
 
-use crate::scratch::Scratch;
 use bq_model::Op;
+use lane_course::Scratch;
 
 // Appends the value that the operation enqueues, if any.
 fn put_value(puts: &mut Vec<u64>, op: Op)

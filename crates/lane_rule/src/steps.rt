@@ -17,6 +17,7 @@ pub type Words = Shared<u64, View, Shape, LaneRule>;
 pub type Token = Seat<u64, View>;
 
 /// The next step of the seat's caller, which loads this word. Gives what it found.
+#[inline(always)]
 pub fn load(words: &Words, shape: &Shape, token: &mut Token, location: Location) -> Content
     requires at { IsAt words.now.table_id words.now.key shape.now token.old.me.0.caller token.old.me.0.kept.point token.old }
     requires load { act token.old.me.0.caller token.old.me.0.kept.point ≡ Act.Load location }
@@ -27,6 +28,7 @@ pub fn load(words: &Words, shape: &Shape, token: &mut Token, location: Location)
 }
 
 /// The next step of the seat's caller, which stores this in this word.
+#[inline(always)]
 pub fn store(words: &Words, shape: &Shape, token: &mut Token, location: Location, new: Content)
     requires at { IsAt words.now.table_id words.now.key shape.now token.old.me.0.caller token.old.me.0.kept.point token.old }
     requires store { act token.old.me.0.caller token.old.me.0.kept.point ≡ Act.Store location new }
@@ -36,6 +38,7 @@ pub fn store(words: &Words, shape: &Shape, token: &mut Token, location: Location
 }
 
 /// The next step of the seat's caller, which exchanges this word where that has `old`. Gives what it found.
+#[inline(always)]
 pub fn exchange(
     words: &Words,
     shape: &Shape,
@@ -58,6 +61,7 @@ pub fn exchange(
 }
 
 /// The next step of the seat's caller, which sets these marks of a row. Gives what it found.
+#[inline(always)]
 pub fn join(words: &Words, shape: &Shape, token: &mut Token, row: u32, marks: Marks) -> Content
     requires at { IsAt words.now.table_id words.now.key shape.now token.old.me.0.caller token.old.me.0.kept.point token.old }
     requires join { act token.old.me.0.caller token.old.me.0.kept.point ≡ Act.Join row marks }
@@ -86,6 +90,7 @@ pub fn step(words: &Words, shape: &Shape, caller: u32, token: &mut Token, point:
 
 /// The start of a command of this idle caller, which begins at this point, and its first step, a load, both in one. Gives what
 /// it found.
+#[inline(always)]
 pub fn first_load<C: Command>(
     words: &Words,
     shape: &Shape,

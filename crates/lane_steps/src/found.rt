@@ -6,6 +6,7 @@ ghost use Rattle.lane_steps.specs.Act.{behind, far_behind};
 use word_rows::{Content, HeadWord, LinkWord, Marks, Place};
 
 /// What was found in HEAD.
+#[inline(always)]
 pub fn head_in(found: Content) -> HeadWord
     ensures { result ≡ head_in found }
 {
@@ -16,6 +17,7 @@ pub fn head_in(found: Content) -> HeadWord
 }
 
 /// What was found in TAIL.
+#[inline(always)]
 pub fn tail_in(found: Content) -> Place
     ensures { result ≡ tail_in found }
 {
@@ -26,6 +28,7 @@ pub fn tail_in(found: Content) -> Place
 }
 
 /// What was found in the LINK of a row.
+#[inline(always)]
 pub fn link_in(found: Content) -> LinkWord
     ensures { result ≡ link_in found }
 {
@@ -36,6 +39,7 @@ pub fn link_in(found: Content) -> LinkWord
 }
 
 /// What was found in the VALUE of a row.
+#[inline(always)]
 pub fn value_in(found: Content) -> u64
     ensures { result ≡ value_in found }
 {
@@ -46,6 +50,7 @@ pub fn value_in(found: Content) -> u64
 }
 
 /// What was found in OldTail of an announcement.
+#[inline(always)]
 pub fn old_tail_in(found: Content) -> Option<Place>
     ensures { result ≡ old_tail_in found }
 {
@@ -56,6 +61,7 @@ pub fn old_tail_in(found: Content) -> Option<Place>
 }
 
 /// What was found in a hazard word of a caller.
+#[inline(always)]
 pub fn hazard_in(found: Content) -> Option<u32>
     ensures { result ≡ hazard_in found }
 {
@@ -66,6 +72,7 @@ pub fn hazard_in(found: Content) -> Option<u32>
 }
 
 /// What was found in the MARK of a row.
+#[inline(always)]
 pub fn mark_in(found: Content) -> Marks
     ensures { result ≡ mark_in found }
 {
@@ -80,6 +87,7 @@ pub fn mark_in(found: Content) -> Marks
 }
 
 /// The place of a row that is linked right behind another.
+#[inline(always)]
 pub fn behind(place: Place, row: u32) -> Place
     requires { place.count < 2 ^ 44 }
     ensures { result ≡ behind place row }
@@ -91,6 +99,7 @@ pub fn behind(place: Place, row: u32) -> Place
 }
 
 /// The place of a row that lies so many rows behind another.
+#[inline(always)]
 pub fn far_behind(place: Place, row: u32, more: u32) -> Place
     requires { place.count + more < 2 ^ 44 }
     ensures { result ≡ far_behind place row more }

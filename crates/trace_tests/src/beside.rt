@@ -95,3 +95,21 @@ fn caller_goes_on_beside_one_that_stops_before_each_kind(rt: HostRuntime) -> Res
     let meanwhile = b"\nuntil 0 install\nstart 1 e9\nfinish 1";
     assert_other_ends(&rt, rt.alloc(), b"d d d", meanwhile, b"decide", 3)
 }
+
+/// Its own values are in no queue then: the other caller finds none, and the history has its dequeue alone.
+#[test]
+fn batch_that_was_not_announced_is_seen_by_nobody(rt: HostRuntime) -> Result<(), Fail> {
+    let schedule: &[u8] =
+        b"bqplay 1\nshape 2 4 8 100 0\nstart 0 e5 e6 d\nuntil 0 install\nstart 1 d\nfinish 1\n";
+    let text = play_schedule(rt.alloc(), schedule)?;
+    assert!(rt;
+        text.as_slice() == b"bqhist 1\ncallers 2\ngroup 1 0 d-\n# unfinished 0\n".as_slice(),
+        "{text:?}"
+    );
+    let legal = Verdict::Legal {
+        groups: 1,
+        operations: 1,
+    };
+    assert!(rt; check_history(rt.alloc(), text.as_slice()) == Ok(legal));
+    Ok(())
+}

@@ -10,6 +10,7 @@ use excess_count::Counts;
 const COUNTS: u64 = 1 << 16;
 
 /// The counts of a batch as a word.
+#[inline(always)]
 pub fn pack_counts(counts: Counts) -> u64
     requires { CountsFit counts }
     ensures { result ≡ counts_word counts }
@@ -20,6 +21,7 @@ pub fn pack_counts(counts: Counts) -> u64
 }
 
 /// The counts that the word is.
+#[inline(always)]
 pub fn unpack_counts(word: u64) -> Option<Counts>
     ensures { ReadsBack CountsFit counts_word word result }
 {
@@ -49,6 +51,7 @@ const CALLERS: u64 = 32;
 
 impl BatchNumber {
     /// The number as a word.
+    #[inline(always)]
     pub fn pack(self) -> u64
         requires { BatchFits coding_limits self }
         ensures { result ≡ batch_word self }
@@ -57,6 +60,7 @@ impl BatchNumber {
     }
 
     /// The number that the word is.
+    #[inline(always)]
     pub fn unpack(word: u64) -> BatchNumber
         ensures { ReadsBack (BatchFits coding_limits) batch_word word (Some result) }
     {

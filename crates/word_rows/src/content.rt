@@ -46,6 +46,7 @@ pub enum Content {
 
 impl Content {
     /// The content as the word that stands in the table.
+    #[inline(always)]
     pub fn pack(self) -> u64
         requires { Fits coding_limits self }
         ensures { result ≡ coded self }
@@ -67,6 +68,7 @@ impl Content {
     }
 
     /// The content that the word has at this location.
+    #[inline(always)]
     pub fn unpack(location: Location, word: u64) -> Option<Content>
         ensures { ReadsBack (CanCode location) coded word result }
     {
@@ -84,6 +86,7 @@ impl Content {
 }
 
 /// The content that the word has in this field of an announcement.
+#[inline(always)]
 fn unpack_field(field: AnnField, word: u64) -> Option<Content>
     ensures { ReadsBack (CanCodeField field) coded word result }
 {
@@ -100,6 +103,7 @@ fn unpack_field(field: AnnField, word: u64) -> Option<Content>
 }
 
 /// The row that the word of a chain's end names.
+#[inline(always)]
 fn unpack_chain_end(word: u64) -> Option<Content>
     ensures { ReadsBack (CanCodeField AnnField.First) coded word result }
 {

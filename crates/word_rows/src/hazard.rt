@@ -7,6 +7,7 @@ ghost use Rattle.word_rows.specs.Fits.{HazardFits};
 use crate::packing::NUMBERS;
 
 /// A row or announcement that a caller holds, or none, as a word.
+#[inline(always)]
 pub fn pack_hazard(number: Option<u32>) -> u64
     ensures { result ≡ hazard_word number }
 {
@@ -17,6 +18,7 @@ pub fn pack_hazard(number: Option<u32>) -> u64
 }
 
 /// What the hazard word names.
+#[inline(always)]
 pub fn unpack_hazard(word: u64) -> Option<Option<u32>>
     ensures { ReadsBack (HazardFits (2 ^ 18)) hazard_word word result }
 {

@@ -26,6 +26,7 @@ const ANN: u64 = 1;
 
 impl HeadWord {
     /// What HEAD names, as a word.
+    #[inline(always)]
     pub fn pack(self) -> u64
         requires { HeadFits coding_limits self }
         ensures { result ≡ head_word self }
@@ -37,6 +38,7 @@ impl HeadWord {
     }
 
     /// What the word names.
+    #[inline(always)]
     pub fn unpack(word: u64) -> Option<HeadWord>
         ensures none_of_other_kinds { (result ≡ None) ↔ (2 ≤ word % 4) }
         ensures its_head { ReadsBack (HeadFits coding_limits) head_word word result }

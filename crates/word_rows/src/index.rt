@@ -17,6 +17,7 @@ pub(crate) const CALLER_WORDS: u32 = 2;
 pub(crate) const ANN_WORDS: u32 = 10;
 
 /// Where HEAD lies.
+#[inline(always)]
 pub fn head(shape: &Shape) -> u32
     ensures by_the_layout { result ≡ index_of shape.now Location.Head }
     ensures in_the_table { result < words_of shape.now }
@@ -25,6 +26,7 @@ pub fn head(shape: &Shape) -> u32
 }
 
 /// Where TAIL lies.
+#[inline(always)]
 pub fn tail(shape: &Shape) -> u32
     ensures by_the_layout { result ≡ index_of shape.now Location.Tail }
     ensures in_the_table { result < words_of shape.now }
@@ -33,6 +35,7 @@ pub fn tail(shape: &Shape) -> u32
 }
 
 /// Where LINK of a row lies.
+#[inline(always)]
 pub fn link(shape: &Shape, row: u32) -> u32
     requires { row < rows_of shape.now }
     ensures by_the_layout { result ≡ index_of shape.now (Location.Link row) }
@@ -42,6 +45,7 @@ pub fn link(shape: &Shape, row: u32) -> u32
 }
 
 /// Where VALUE of a row lies.
+#[inline(always)]
 pub fn value(shape: &Shape, row: u32) -> u32
     requires { row < rows_of shape.now }
     ensures by_the_layout { result ≡ index_of shape.now (Location.Value row) }
@@ -51,6 +55,7 @@ pub fn value(shape: &Shape, row: u32) -> u32
 }
 
 /// Where MARK of a row lies.
+#[inline(always)]
 pub fn mark(shape: &Shape, row: u32) -> u32
     requires { row < rows_of shape.now }
     ensures by_the_layout { result ≡ index_of shape.now (Location.Mark row) }
@@ -60,6 +65,7 @@ pub fn mark(shape: &Shape, row: u32) -> u32
 }
 
 /// Where the words of the callers begin.
+#[inline(always)]
 pub(crate) fn callers_start(shape: &Shape) -> u32
     ensures { result ≡ 2 + 3 * rows_of shape.now }
 {
@@ -67,6 +73,7 @@ pub(crate) fn callers_start(shape: &Shape) -> u32
 }
 
 /// Where the words of the announcements begin.
+#[inline(always)]
 pub(crate) fn anns_start(shape: &Shape) -> u32
     ensures { result ≡ 2 + 3 * rows_of shape.now + 2 * shape.now.callers }
 {
@@ -74,6 +81,7 @@ pub(crate) fn anns_start(shape: &Shape) -> u32
 }
 
 /// Where NODE_HAZARD of a caller lies.
+#[inline(always)]
 pub fn node_hazard(shape: &Shape, caller: u32) -> u32
     requires { caller < shape.now.callers }
     ensures by_the_layout { result ≡ index_of shape.now (Location.NodeHazard caller) }
@@ -83,6 +91,7 @@ pub fn node_hazard(shape: &Shape, caller: u32) -> u32
 }
 
 /// Where ANN_HAZARD of a caller lies.
+#[inline(always)]
 pub fn ann_hazard(shape: &Shape, caller: u32) -> u32
     requires { caller < shape.now.callers }
     ensures by_the_layout { result ≡ index_of shape.now (Location.AnnHazard caller) }
@@ -92,6 +101,7 @@ pub fn ann_hazard(shape: &Shape, caller: u32) -> u32
 }
 
 /// Where a word of an announcement lies.
+#[inline(always)]
 pub fn ann_word(shape: &Shape, ann: u32, field: AnnField) -> u32
     requires { ann < anns_of shape.now }
     ensures by_the_layout { result ≡ index_of shape.now (Location.AnnWord ann field) }

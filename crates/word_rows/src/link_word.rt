@@ -30,6 +30,7 @@ const SHUT: u64 = 3;
 
 impl LinkWord {
     /// The link as a word.
+    #[inline(always)]
     pub fn pack(self) -> u64
         requires { LinkFits coding_limits self }
         ensures { result ≡ link_word self }
@@ -43,6 +44,7 @@ impl LinkWord {
     }
 
     /// The link that the word is.
+    #[inline(always)]
     pub fn unpack(word: u64) -> Option<LinkWord>
         ensures { ReadsBack (LinkFits coding_limits) link_word word result }
     {

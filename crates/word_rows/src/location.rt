@@ -36,6 +36,7 @@ pub enum AnnField {
 
 impl AnnField {
     /// Which of the announcement's words it is, counted from 0.
+    #[inline(always)]
     pub fn number(self) -> u32
         ensures in_the_order_of_the_layout { result ≡ field_number self }
         ensures one_of_ten { result < 10 }
@@ -117,6 +118,7 @@ pub enum Location {
 
 impl Location {
     /// Where the word lies in the lane's table.
+    #[inline(always)]
     pub fn index(self, shape: &Shape) -> u32
         requires { IsValid shape.now self }
         ensures by_the_layout { result ≡ index_of shape.now self }

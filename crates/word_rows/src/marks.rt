@@ -25,6 +25,7 @@ const MARKS: u64 = 8;
 
 impl Marks {
     /// The marks as a word, the sum of READ 1, PASSED 2 and FREE 4.
+    #[inline(always)]
     pub fn pack(self) -> u64
         ensures { result ≡ marks_word self }
     {
@@ -32,6 +33,7 @@ impl Marks {
     }
 
     /// The marks that the word is.
+    #[inline(always)]
     pub fn unpack(word: u64) -> Option<Marks>
         ensures { ReadsBack (λ (_ : Marks). Unit {0}) marks_word word result }
     {
@@ -47,6 +49,7 @@ impl Marks {
     }
 
     /// The marks that either has: what a `fetch_or` of two words of marks leaves.
+    #[inline(always)]
     pub fn joined(self, other: Marks) -> Marks
         ensures marks_of_either { result ≡ joined_marks self other }
         ensures bits_of_either { marks_word result ≡ bit_or (marks_word self) (marks_word other) }

@@ -10,6 +10,7 @@ use crate::place::Place;
 const UNKNOWN: u64 = 3;
 
 /// Where the list ended, or nothing where that isn't known, as a word.
+#[inline(always)]
 pub fn pack_old_tail(place: Option<Place>) -> u64
     requires { OldTailFits coding_limits place }
     ensures { result ≡ old_tail_word place }
@@ -21,6 +22,7 @@ pub fn pack_old_tail(place: Option<Place>) -> u64
 }
 
 /// The old tail that the word is.
+#[inline(always)]
 pub fn unpack_old_tail(word: u64) -> Option<Option<Place>>
     ensures { ReadsBack (OldTailFits coding_limits) old_tail_word word result }
 {

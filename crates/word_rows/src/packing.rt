@@ -14,6 +14,7 @@ const KIND_BITS: u64 = 3;
 const NUMBER_BITS: u64 = NUMBERS - 1;
 
 /// A count, a number and a kind as one word.
+#[inline(always)]
 pub(crate) fn counted(count: u64, number: u32, kind: u64) -> u64
     requires count { count < 2 ^ 44 }
     requires number { number < 2 ^ 18 }
@@ -24,6 +25,7 @@ pub(crate) fn counted(count: u64, number: u32, kind: u64) -> u64
 }
 
 /// The count of such a word.
+#[inline(always)]
 pub(crate) fn count_in(word: u64) -> u64
     ensures value { result ≡ word / 2 ^ 20 }
     ensures fits { result < 2 ^ 44 }
@@ -32,6 +34,7 @@ pub(crate) fn count_in(word: u64) -> u64
 }
 
 /// The number of such a word.
+#[inline(always)]
 pub(crate) fn number_in(word: u64) -> u32
     ensures value { result ≡ word / 4 % 2 ^ 18 }
     ensures fits { result < 2 ^ 18 }
@@ -40,6 +43,7 @@ pub(crate) fn number_in(word: u64) -> u32
 }
 
 /// The kind of such a word.
+#[inline(always)]
 pub(crate) fn kind_in(word: u64) -> u64
     ensures { result ≡ word % 4 }
 {

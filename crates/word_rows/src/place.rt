@@ -20,6 +20,7 @@ pub(crate) const NODE: u64 = 0;
 
 impl Place {
     /// The place as a word.
+    #[inline(always)]
     pub fn pack(self) -> u64
         requires { PlaceFits coding_limits self }
         ensures { result ≡ place_word self }
@@ -28,6 +29,7 @@ impl Place {
     }
 
     /// The place that the word is.
+    #[inline(always)]
     pub fn unpack(word: u64) -> Option<Place>
         ensures none_of_other_kinds { (result ≡ None) ↔ (word % 4 ≢ 0) }
         ensures its_place { ReadsBack (PlaceFits coding_limits) place_word word result }

@@ -5,6 +5,7 @@ ghost use Rattle.word_rows.specs.Sizes.{waiting_of, items_of, stoppers_of, own_r
 use bq_model::Shape;
 
 /// How many rows can wait to be used again.
+#[inline(always)]
 fn waiting(shape: &Shape) -> u32
     ensures { result ≡ waiting_of shape.now }
 {
@@ -12,6 +13,7 @@ fn waiting(shape: &Shape) -> u32
 }
 
 /// How many item rows each caller has.
+#[inline(always)]
 pub fn items(shape: &Shape) -> u32
     ensures { result ≡ items_of shape.now }
 {
@@ -19,6 +21,7 @@ pub fn items(shape: &Shape) -> u32
 }
 
 /// How many stopper rows each caller has. A stopper is a row without a value.
+#[inline(always)]
 pub fn stoppers(shape: &Shape) -> u32
     ensures { result ≡ stoppers_of shape.now }
 {
@@ -26,6 +29,7 @@ pub fn stoppers(shape: &Shape) -> u32
 }
 
 /// How many rows each caller has.
+#[inline(always)]
 pub(crate) fn own_rows(shape: &Shape) -> u32
     ensures { result ≡ own_rows_of shape.now }
 {
@@ -33,6 +37,7 @@ pub(crate) fn own_rows(shape: &Shape) -> u32
 }
 
 /// How many rows there are, with row 0.
+#[inline(always)]
 pub fn rows(shape: &Shape) -> u32
     ensures { result ≡ rows_of shape.now }
 {
@@ -40,6 +45,7 @@ pub fn rows(shape: &Shape) -> u32
 }
 
 /// How many announcements there are.
+#[inline(always)]
 pub fn anns(shape: &Shape) -> u32
     ensures { result ≡ anns_of shape.now }
 {
@@ -47,6 +53,7 @@ pub fn anns(shape: &Shape) -> u32
 }
 
 /// How many words the lane's table has.
+#[inline(always)]
 pub fn words(shape: &Shape) -> u32
     ensures { result ≡ words_of shape.now }
 {

@@ -1,4 +1,4 @@
-use Rattle.bq_lane.proofs.Advances.{room_for, follows_next}
+use Rattle.lane_course.proofs.Advances.{room_for, follows_next}
 use Rattle.bq_lane.proofs.drive.advance.Goals as goal
 
 pub follow-requires-clause-room : goal.follow-requires-clause-room

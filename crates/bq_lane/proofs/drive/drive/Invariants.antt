@@ -1,6 +1,6 @@
 use Rattle.std.proofs.Common.{◌≡◌}
-use Rattle.bq_lane.specs.Running.{Running, GoesTo}
-use Rattle.bq_lane.specs.Scratch.{SameRoom}
+use Rattle.lane_course.specs.Running.{Running, GoesTo}
+use Rattle.lane_course.specs.Scratch.{SameRoom}
 use Rattle.bq_lane.proofs.drive.drive.Given as goal
 use Rattle.lane_rule.specs.Goes.{left_of}
 

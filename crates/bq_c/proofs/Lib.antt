@@ -1,0 +1,4 @@
+mod Laid
+mod Lasts
+mod SeatAt
+mod SeatGoes

@@ -1,0 +1,25 @@
+use Rattle.std.proofs.Common.{rules, ◌≡◌, [], sym, subst, Box, Option, Some, IfSome}
+use Rattle.std.specs.Global.{Global}
+use Rattle.bq_c.specs.declared.pass.BqPass.{BqPass}
+use Rattle.bq_c.specs.declared.seat.Seat.{Seat}
+use Rattle.bq_c.proofs.Lasts.{all_left, last_too, left_of, all_so_far, all_of_it}
+use Rattle.bq_c.proofs.seating.put_all.Goals as goal
+
+pub loop-k-preserved : goal.loop-k-preserved
+loop-k-preserved c =
+    let i = c.loop-k.invariant in
+    let old = c.loop-k.seats.items in
+    let left = c.pop.new.self.items in
+    let fresh = λ (s : Box Seat Global). s.value.pass.seen ≡ [] in
+    let open_one = λ (p : BqPass). (p.state ≡ 1) × IfSome p.address.seat (λ seat. seat.pass.seen ≡ []) in
+    record {
+      left = left_of old left c.in-Some.seat c.loop-k.out c.loop-k.k c.put.new.self c.in-Some.ensures.items i.left;
+      seen = all_left old left fresh (Some c.in-Some.seat) i.seen c.in-Some.ensures.items;
+      laid = all_so_far open_one c.loop-k.out c.loop-k.k c.put.new.self (search rules) i.laid (
+        c.put.ensures.open,
+        subst (λ (o : Option Seat). IfSome o (λ seat. seat.pass.seen ≡ [])) (sym c.put.ensures.seat) (last_too old left fresh (Some c.in-Some.seat) i.seen c.in-Some.ensures.items),
+      );
+    }
+
+pub returns : goal.returns
+returns c = all_of_it (λ (p : BqPass). (p.state ≡ 1) × IfSome p.address.seat (λ seat. seat.pass.seen ≡ [])) c.loop-k.out c.loop-k.k (search rules) c.loop-k.invariant.laid

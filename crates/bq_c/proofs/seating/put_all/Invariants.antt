@@ -1,0 +1,9 @@
+use Rattle.std.proofs.Common.{◌≡◌, ◌+◌, [], length, take, All, IfSome}
+use Rattle.bq_c.proofs.seating.put_all.Given as goal
+
+abbrev pub invariant-loop-k : goal.invariant-loop-k
+invariant-loop-k l = record {
+  left : length l.seats.items + l.k ≡ length l.out;
+  seen : All (λ seat. seat.value.pass.seen ≡ []) l.seats.items;
+  laid : All (λ pass. (pass.state ≡ 1) × IfSome pass.address.seat (λ seat. seat.pass.seen ≡ [])) (take l.k l.out);
+}

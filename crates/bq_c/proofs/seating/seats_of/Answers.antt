@@ -1,0 +1,22 @@
+use Rattle.std.proofs.Common.{◌≡◌, [], ◌∷◌, length, length-append, sym, ap, subst, ◌∙◌, All, arith, Box}
+use Rattle.std.proofs.lemmas.List.Elements.{All-push}
+use Rattle.std.specs.Global.{Global}
+use Rattle.bq_lane.specs.Pass.{PassState}
+use Rattle.bq_c.specs.declared.seat.Seat.{Seat}
+use Rattle.bq_c.proofs.seating.seats_of.Goals as goal
+
+pub loop-pass-preserved : goal.loop-pass-preserved
+loop-pass-preserved c =
+    let i = c.loop-pass.invariant in
+    let taken = c.in-Some.ensures in
+    let box = c.in_ok-new.field-0 in
+    let more = ap length c.in_ok-push.ensures.items ∙ length-append c.loop-pass.seats.items (box ∷ []) in
+    let fresh = ap (λ (s : Seat). s.pass.seen) c.in_ok-new.ensures.ok ∙ (ap (λ (p : PassState). p.seen) c.in_ok-seat.ensures.pass ∙ taken.it_saw_nothing) in
+    record {
+      table = c.last_pass.ensures.table;
+      shape = c.last_pass.ensures.shape;
+      callers = c.last_pass.ensures.one_caller;
+      seen = c.last_pass.ensures.nothing_seen;
+      count = omega (arith, more, taken.one_less, i.count);
+      seats = subst (All (λ (s : Box Seat Global). s.value.pass.seen ≡ [])) (sym c.in_ok-push.ensures.items) (All-push (λ (s : Box Seat Global). s.value.pass.seen ≡ []) c.loop-pass.seats.items box i.seats fresh);
+    }

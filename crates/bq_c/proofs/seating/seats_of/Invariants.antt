@@ -1,0 +1,16 @@
+use Rattle.std.proofs.Common.{◌≡◌, ◌+◌, [], length, All}
+use Rattle.std.specs.Arc.{arc_value}
+use Rattle.bq_c.proofs.seating.seats_of.Given as goal
+
+abbrev pub invariant-loop-pass : goal.invariant-loop-pass
+invariant-loop-pass l = record {
+  table : All (λ pass. pass.table ≡ (arc_value l.lane).table) l.passes.items;
+  shape : All (λ pass. pass.shape ≡ (arc_value l.lane).shape) l.passes.items;
+  callers : All (λ pass. length pass.callers ≡ 1) l.passes.items;
+  seen : All (λ pass. pass.seen ≡ []) l.passes.items;
+  count : length l.seats.items + length l.passes.items ≡ length l.fn.passes.items;
+  seats : All (λ seat. seat.value.pass.seen ≡ []) l.seats.items;
+}
+
+abbrev pub decreases-loop-pass : goal.decreases-loop-pass
+decreases-loop-pass l = length l.passes.items

@@ -1,0 +1,2 @@
+-- What the ways of a help read.
+pub mod Found
