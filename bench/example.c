@@ -25,6 +25,18 @@ static int wrong_calls_are_refused(bq_pass *pass) {
            bq_apply(pass, many, 3, answers, 2) == BQ_BAD_ARGUMENT;
 }
 
+// Whether a pass that holds several callers makes no operations, and the pass that went into it is none.
+static int several_callers_make_nothing(bq_pass *both, bq_pass *joined) {
+    bq_op op = {BQ_DEQUEUE, 0};
+    bq_answer answer;
+    uint64_t value = 9;
+    uint32_t caller = 9;
+    return bq_enqueue(both, 1) == BQ_SEVERAL && bq_dequeue(both, &value) == BQ_SEVERAL &&
+           bq_apply(both, &op, 1, &answer, 1) == BQ_SEVERAL && bq_caller(both, &caller) == BQ_SEVERAL &&
+           bq_made(both, &value) == BQ_SEVERAL && caller == 9 && value == 9 && bq_gather(both, joined) == BQ_NO_PASS &&
+           bq_gather(joined, both) == BQ_NO_PASS;
+}
+
 int main(void) {
     bq_pass passes[2] = {BQ_NO_PASS_YET, BQ_NO_PASS_YET};
     if (bq_make(passes, 2, 4, 8, 1000) != BQ_DONE) return 1;
@@ -44,6 +56,9 @@ int main(void) {
     uint32_t caller;
     if (bq_made(&passes[1], &made) != BQ_DONE || bq_caller(&passes[1], &caller) != BQ_DONE) return 6;
     printf("caller %" PRIu32 " took %" PRIuPTR " by %" PRIu64 " operations\n", caller, (uintptr_t)sum, made);
-    if (bq_close(&passes[0]) != BQ_DONE || bq_close(&passes[1]) != BQ_DONE || bq_close(&passes[1]) != BQ_NO_PASS) return 7;
+
+    if (bq_gather(&passes[0], &passes[1]) != BQ_DONE) return 7;
+    if (!several_callers_make_nothing(&passes[0], &passes[1])) return 8;
+    if (bq_close(&passes[0]) != BQ_DONE || bq_close(&passes[0]) != BQ_NO_PASS || bq_close(&passes[1]) != BQ_NO_PASS) return 9;
     return 0;
 }

@@ -3,6 +3,7 @@ use std::ffi::c_void;
 use std::thread;
 
 const DONE: u32 = 0;
+const SEVERAL: u32 = 8;
 
 #[repr(C)]
 struct RawPass {
@@ -28,6 +29,7 @@ unsafe extern "C" {
     fn bq_make(passes: *mut RawPass, callers: usize, batch: u32, room: u32, allowance: u64) -> u32;
     fn bq_dequeue(pass: *mut RawPass, value: *mut u64) -> u32;
     fn bq_apply(pass: *mut RawPass, ops: *const Op, count: usize, answers: *mut Answer, places: usize) -> u32;
+    fn bq_gather(pass: *mut RawPass, other: *mut RawPass) -> u32;
     fn bq_close(pass: *mut RawPass) -> u32;
 }
 
@@ -59,6 +61,12 @@ impl Pass {
             status => Err(status),
         }
     }
+
+    /// Joins the callers of another pass of the same lane to those of this one.
+    fn gather(&mut self, mut other: Pass) -> bool {
+        let status = unsafe { bq_gather(&mut self.0, &mut other.0) };
+        status == DONE
+    }
 }
 
 impl Drop for Pass {
@@ -72,8 +80,11 @@ fn main() {
     let ops = [Op { kind: 2, value: 0 }, Op { kind: 1, value: 5 }, Op { kind: 1, value: 6 }];
     let answers = first.apply(&ops).expect("no refusal");
     assert_eq!(answers.iter().map(|answer| answer.kind).collect::<Vec<_>>(), [2, 0, 0]);
-    let taken = thread::spawn(move || [second.dequeue(), second.dequeue(), second.dequeue()]);
-    assert_eq!(taken.join().expect("no panic"), [Some(5), Some(6), None]);
+    let taken = thread::spawn(move || ([second.dequeue(), second.dequeue(), second.dequeue()], second));
+    let (values, second) = taken.join().expect("no panic");
+    assert_eq!(values, [Some(5), Some(6), None]);
     assert_eq!(first.apply(&[]).err(), Some(5));
+    assert!(first.gather(second));
+    assert_eq!(first.apply(&ops).err(), Some(SEVERAL));
     println!("taken: 5 6");
 }

@@ -8,7 +8,7 @@
 // memory that the program keeps; all zero is no pass. Only the functions below change it, and it isn't copied: a copy and
 // the pass itself must not both be used.
 //
-// No pointer is null, and each lies on memory of its type, as many as are told.
+// No pointer is null, each lies on memory of its type, as many as are told, and no two of one call lie on the same memory.
 //
 // Each function answers a status. Where it isn't BQ_DONE or BQ_EMPTY, nothing was made, and what the call would write
 // stays as it was.
@@ -30,6 +30,7 @@ enum {
     BQ_BAD_ARGUMENT = 5, // a number is out of range, a kind isn't known, or the lengths don't fit
     BQ_NO_PASS = 6,      // the pass was closed, or never made
     BQ_IN_USE = 7,       // one of the passes to be made is in use
+    BQ_SEVERAL = 8,      // the pass holds several callers
 };
 
 // The limits of a lane.
@@ -86,6 +87,12 @@ uint32_t bq_caller(bq_pass *pass, uint32_t *caller);
 
 // Tells how many operations the pass's caller has made.
 uint32_t bq_made(bq_pass *pass, uint64_t *operations);
+
+// Joins the callers of another pass of the same lane to those of `pass`, which has then seen what each of them had seen.
+// The other is zero then. Where either is no pass, both stay as they are. The two must be different passes of one lane,
+// which isn't looked at. A pass that holds several callers can be gathered with others and closed: the calls that make
+// operations or tell of them answer BQ_SEVERAL.
+uint32_t bq_gather(bq_pass *pass, bq_pass *other);
 
 // Gives a pass back, which is zero again then. The lane's memory is freed with its last pass.
 uint32_t bq_close(bq_pass *pass);

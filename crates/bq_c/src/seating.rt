@@ -1,6 +1,7 @@
 // A new lane, with a seat for each of its callers.
 ghost use Rattle.std.specs.Prelude.{◌≡◌, ◌+◌, [], length, All, IfSome, IfNone, IfOk, OnOk, OnErr};
 ghost use Rattle.std.specs.Arc.{arc_value};
+ghost use Rattle.bq_c.specs.Gathering.{OneCallerOf, OfOneLane};
 
 use crate::pass::BqPass;
 use crate::seat::Seat;
@@ -43,6 +44,7 @@ fn seats_of(
     requires nothing_seen { All (λ pass. pass.seen ≡ []) passes.items }
     ensures one_each { IfOk result (λ seats. length seats.items ≡ length passes.items) }
     ensures nothing_seen { IfOk result (λ seats. All (λ seat. seat.value.pass.seen ≡ []) seats.items) }
+    ensures of_this_lane { IfOk result (λ seats. All (λ seat. OneCallerOf (arc_value lane.now) seat.value.pass) seats.items) }
 {
     let mut seats = Vec::new(alloc);
     while let Some(pass) = last_pass(lane, &mut passes) {
@@ -53,11 +55,14 @@ fn seats_of(
 }
 
 // Puts the seats into the passes, the last one first.
-fn put_all(mut seats: Vec<Box<Seat>>, out: &mut [BqPass])
+fn put_all(lane: &Arc<BqLane>, mut seats: Vec<Box<Seat>>, out: &mut [BqPass])
     requires one_each { length seats.items ≡ length out.old }
     requires nothing_seen { All (λ seat. seat.value.pass.seen ≡ []) seats.items }
-    ensures { All (λ pass. (pass.state ≡ 1) × IfSome pass.address.seat (λ seat. seat.pass.seen ≡ [])) out.new }
+    requires of_this_lane { All (λ seat. OneCallerOf (arc_value lane.now) seat.value.pass) seats.items }
+    ensures of_this_lane { All (λ pass. IfSome pass.address.seat (λ seat. OneCallerOf (arc_value lane.now) seat.pass)) out.new }
+    ensures fresh { All (λ pass. (pass.state ≡ 1) × IfSome pass.address.seat (λ seat. seat.pass.seen ≡ [])) out.new }
 {
+    let _shared = lane;
     for k in 0..out.len() {
         match seats.pop() {
             Some(seat) => out[k].put(seat),
@@ -70,6 +75,7 @@ fn put_all(mut seats: Vec<Box<Seat>>, out: &mut [BqPass])
 pub fn seat_all(alloc: Global, shape: &Shape, out: &mut [BqPass]) -> Result<(), OutOfMemory>
     requires one_each { length out.old ≡ shape.now.callers }
     ensures ok { OnOk result (All (λ pass. (pass.state ≡ 1) × IfSome pass.address.seat (λ seat. seat.pass.seen ≡ [])) out.new) }
+    ensures one_lane { OnOk result (OfOneLane out.new) }
     ensures err { OnErr result (out.new ≡ out.old) }
 {
     let most = shape.batch();
@@ -77,6 +83,6 @@ pub fn seat_all(alloc: Global, shape: &Shape, out: &mut [BqPass]) -> Result<(), 
     let (lane, passes) = made;
     let lane = Arc::new(alloc, lane)?;
     let seats = seats_of(alloc, &lane, passes, most)?;
-    put_all(seats, out);
+    put_all(&lane, seats, out);
     Ok(())
 }

@@ -20,6 +20,8 @@ pub const BAD_ARGUMENT: u32 = 5;
 pub const NO_PASS: u32 = 6;
 /// A pass that is still in use lies where a new one was to be put.
 pub const IN_USE: u32 = 7;
+/// The pass holds several callers, and only one by itself can make calls.
+pub const SEVERAL: u32 = 8;
 
 /// The number of a refusal.
 pub fn of_refusal(refusal: Refusal) -> u32

@@ -1,5 +1,5 @@
 -- An ended command is applied: its answers are the replay's, by what its caller has seen.
-use Rattle.std.proofs.Common.{◌≡◌, ℕ, ◌≤◌, Bool, true, false, List, [], ◌∷◌, ◌++◌, length, sym, refl, ap, ◌∙◌, subst, arith}
+use Rattle.std.proofs.Common.{◌≡◌, ℕ, ◌≤◌, Option, Bool, true, false, List, [], ◌∷◌, ◌++◌, length, sym, refl, ap, ◌∙◌, subst, arith}
 use Rattle.atomic_table.specs.declared.shared.Seat.{Seat}
 use Rattle.bq_model.specs.declared.op.Op.{Op}
 use Rattle.bq_model.specs.declared.op.Answer.{Answer}
@@ -22,6 +22,7 @@ use Rattle.lane_steps.specs.Answers.{closing_answers}
 use Rattle.lane_course.specs.declared.next.Next.{Next}
 use Rattle.lane_course.specs.declared.next.Next.TheVariants.{Goes, Ends}
 use Rattle.lane_course.specs.declared.scratch.Scratch.{Scratch}
+use Rattle.lane_course.specs.Next.{told}
 use Rattle.lane_course.specs.Running.{Running, GoesTo, HasEnded, EndsTo, EndsSo, Ended, IsNext, group_of, begun_seat}
 use Rattle.lane_course.proofs.Continues.{ends_then}
 use Rattle.bq_lane.specs.Applied.{Rested, Applied, Called}
@@ -102,6 +103,10 @@ pub answered : (p q : Seat ℕ View) (ops : List Op) (xs : List Answer) (a : Scr
 answered p q ops xs a (Plain y) e is = subst (λ (ys : List Answer). EndsTo p ops ys a q) (sym is) e
 answered p q ops xs a (Batch m) e is = subst (λ (ys : List Answer). EndsTo p ops ys a q) (sym is) e
 answered p q ops xs a Full e is = (e, is)
+
+-- what comes next, as it was told
+pub end_is : {e f : Option Closing} → e ≡ f → (t : Point) → told e t ≡ told f t
+end_is is t = ap (λ (e : Option Closing). told e t) is
 
 module _ (id : TableId) (key s : Shape) (c : ℕ) (a : Scratch) (p q : Seat ℕ View) (y : Next) (next : IsNext id key s c a p q y) where
   pub as_goes : (t : Point) → y ≡ Goes t → Running id key s c t a q × GoesTo p q

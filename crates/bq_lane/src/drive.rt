@@ -47,7 +47,10 @@ fn advance(
             seek(words, shape, caller, token, taking, row, left, scratch)
         }
         Point::Take(Taking::Enqueue(value), TakePoint::ClearMark { row }) => {
-            put_into(words, shape, caller, token, Item { row, value }, scratch)
+            let mut goes = point;
+            let item = Item { row, value };
+            let end = put_into(words, shape, caller, token, item, &mut goes, scratch);
+            Next::of(end, goes)
         }
         Point::Take(Taking::Batch(notice, value), TakePoint::ClearMark { row }) => {
             fill_from(words, shape, caller, token, notice, value, row, scratch)
@@ -56,9 +59,15 @@ fn advance(
             stop_from(words, shape, caller, token, notice, row, scratch)
         }
         Point::Enqueue(item, EnqueuePoint::LoadTail) => {
-            link(words, shape, caller, token, item, scratch)
+            let mut goes = point;
+            let end = link(words, shape, caller, token, item, &mut goes, scratch);
+            Next::of(end, goes)
         }
-        Point::Dequeue(DequeuePoint::LoadHead) => dequeue_on(words, shape, caller, token, scratch),
+        Point::Dequeue(DequeuePoint::LoadHead) => {
+            let mut goes = point;
+            let end = dequeue_on(words, shape, caller, token, &mut goes, scratch);
+            Next::of(end, goes)
+        }
         Point::Close(closing, point) => {
             finish_at(words, shape, caller, token, closing, point, scratch);
             Next::Ends(closing)
@@ -142,7 +151,11 @@ fn begin<C: Command>(
 {
     match point {
         Point::Take(Taking::Enqueue(value), TakePoint::LoadMark { row, left }) => {
-            put_first::<C>(words, shape, caller, token, value, row, left, scratch)
+            let mut goes = point;
+            let end = put_first::<C>(
+                words, shape, caller, token, value, row, left, &mut goes, scratch,
+            );
+            Next::of(end, goes)
         }
         Point::Take(Taking::Batch(notice, value), TakePoint::LoadMark { row, left }) => {
             fill_first::<C>(
@@ -150,7 +163,9 @@ fn begin<C: Command>(
             )
         }
         Point::Dequeue(DequeuePoint::LoadHead) => {
-            dequeue_first::<C>(words, shape, caller, token, scratch)
+            let mut goes = point;
+            let end = dequeue_first::<C>(words, shape, caller, token, &mut goes, scratch);
+            Next::of(end, goes)
         }
         Point::Many(plan, ManyPoint::LoadHead) => {
             dequeue_many_first::<C>(words, shape, caller, token, &plan, scratch)
@@ -262,8 +277,9 @@ pub fn perform_dequeue(
     ensures room { SameRoom scratch.old scratch.new }
 {
     let ops = [Op::Deq];
-    match dequeue_first::<Brand>(words, shape, caller, token, scratch) {
-        Next::Goes(point) => drive(words, shape, caller, token, point, &ops, scratch, out),
-        Next::Ends(closing) => answer(closing, &ops, scratch.values.as_slice(), out),
+    let mut goes = Point::Idle;
+    match dequeue_first::<Brand>(words, shape, caller, token, &mut goes, scratch) {
+        None => drive(words, shape, caller, token, goes, &ops, scratch, out),
+        Some(closing) => answer(closing, &ops, scratch.values.as_slice(), out),
     }
 }

@@ -19,8 +19,9 @@ use crate::drive::{answer, drive};
 use crate::pass::Seated;
 use crate::start::lay_out;
 use bq_model::{Answers, Op, Refusal, Shape};
-use lane_course::{Next, Scratch};
+use lane_course::Scratch;
 use lane_rule::{Token, Words};
+use lane_steps::Point;
 use plain_ways::put_first;
 use std::marker::Brand;
 use word_rows::{item_row, items};
@@ -50,9 +51,12 @@ fn perform_put(
     let ops = &[Op::Enq(value)];
     let row = item_row(shape, caller, 0);
     let left = items(shape) - 1;
-    match put_first::<Brand>(words, shape, caller, token, value, row, left, scratch) {
-        Next::Goes(point) => drive(words, shape, caller, token, point, ops, scratch, out),
-        Next::Ends(closing) => answer(closing, ops, scratch.values.as_slice(), out),
+    let mut goes = Point::Idle;
+    match put_first::<Brand>(
+        words, shape, caller, token, value, row, left, &mut goes, scratch,
+    ) {
+        None => drive(words, shape, caller, token, goes, ops, scratch, out),
+        Some(closing) => answer(closing, ops, scratch.values.as_slice(), out),
     }
 }
 

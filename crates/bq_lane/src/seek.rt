@@ -8,7 +8,7 @@ use batch_ways::{fill, stop};
 use bq_model::Shape;
 use lane_course::{Next, Scratch};
 use lane_rule::{Token, Words};
-use lane_steps::Taking;
+use lane_steps::{Point, Taking};
 use plain_ways::{find, put};
 
 /// The steps of a command that searches for a free row, from this one on, with so many behind it.
@@ -27,7 +27,13 @@ pub fn seek(
     ensures same { SamePuts scratch.old scratch.new }
 {
     match taking {
-        Taking::Enqueue(value) => put(words, shape, caller, token, value, first, behind, scratch),
+        Taking::Enqueue(value) => {
+            let mut goes = Point::Idle;
+            let end = put(
+                words, shape, caller, token, value, first, behind, &mut goes, scratch,
+            );
+            Next::of(end, goes)
+        }
         Taking::Batch(notice, value) => fill(
             words, shape, caller, token, notice, value, first, behind, scratch,
         ),

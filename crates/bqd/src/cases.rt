@@ -1,5 +1,7 @@
 // Calls of the program over streams in memory, and what they must leave.
+use crate::command::{Command, command_of};
 use crate::ended::Ended;
+use crate::still::still;
 use crate::top::top;
 use bq_model::{MemorySink, MemorySource};
 use bulk_dispatcher::{Gate, NoGate};
@@ -55,7 +57,8 @@ pub fn quiet_case<'a>(
     }
 }
 
-fn texts(alloc: Global, words: &[&str]) -> Result<Vec<String>, AllocError> {
+/// The words as the program is given them.
+pub fn texts(alloc: Global, words: &[&str]) -> Result<Vec<String>, AllocError> {
     let mut texts = Vec::new(alloc);
     for word in words {
         texts.push(String::from_str(alloc, word)?)?;
@@ -75,16 +78,49 @@ fn streams(alloc: Global, case: &Case<'_>) -> Result<(MemorySource, MemorySink, 
     Ok((source, out, err))
 }
 
-/// Makes the call, and demands that it leaves what it must.
+/// Demands that the streams are left as the call must leave them.
+fn assert_left(
+    rt: &impl Abort,
+    case: &Case<'_>,
+    status: u8,
+    source: &MemorySource,
+    out: &MemorySink,
+    err: &MemorySink,
+) {
+    assert!(rt; status == case.status, "the status is {status}");
+    assert!(rt; out.bytes() == case.out, "what was written");
+    assert!(rt; err.bytes() == case.err, "the line of the error");
+    if case.kept {
+        assert!(rt; source.left() == case.input, "the input is untouched");
+    } else if case.status == 0 {
+        assert!(rt; source.left().is_empty(), "the input was read to its end");
+    }
+}
+
+/// Makes the call by `still`, if its words run no jobs, and demands that it leaves what it must.
+fn made_still(rt: &impl Abort, alloc: Global, case: &Case<'_>) -> Result<(), Fail> {
+    let words = texts(alloc, case.words)?;
+    let (mut source, mut out, mut err) = streams(alloc, case)?;
+    let status = match command_of(&words) {
+        Some(Command::Run { .. }) => return Ok(()),
+        Some(Command::Drill { .. }) => return Ok(()),
+        _ => still(alloc, &words, &mut source, &mut out, &mut err),
+    };
+    assert_left(rt, case, status, &source, &out, &err);
+    Ok(())
+}
+
+/// Makes the call, by `top` and also by `still` if its words run no jobs, and demands that it leaves what it must.
 pub fn made<R: Threads + Abort + Sync>(
     rt: &R,
     alloc: Global,
     case: &Case<'_>,
 ) -> Result<Ended, Fail> {
+    made_still(rt, alloc, case)?;
     made_past(rt, alloc, case, &NoGate)
 }
 
-/// The same, with a gate that the hands pass.
+/// Makes it by `top`, with a gate that the hands pass.
 pub fn made_past<R: Threads + Abort + Sync, G: Gate>(
     rt: &R,
     alloc: Global,
@@ -94,18 +130,7 @@ pub fn made_past<R: Threads + Abort + Sync, G: Gate>(
     let words = texts(alloc, case.words)?;
     let (mut source, mut out, mut err) = streams(alloc, case)?;
     let ended = top(rt, alloc, &words, &mut source, &mut out, &mut err, gate);
-    assert!(rt;
-        ended.status == case.status,
-        "the status is {}",
-        ended.status
-    );
-    assert!(rt; out.bytes() == case.out, "what was written");
-    assert!(rt; err.bytes() == case.err, "the line of the error");
-    if case.kept {
-        assert!(rt; source.left() == case.input, "the input is untouched");
-    } else if case.status == 0 {
-        assert!(rt; source.left().is_empty(), "the input was read to its end");
-    }
+    assert_left(rt, case, ended.status, &source, &out, &err);
     if !case.lists {
         assert!(rt;
             ended.replies.is_empty() && ended.books.is_empty(),

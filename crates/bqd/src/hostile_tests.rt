@@ -1,15 +1,20 @@
-// The program at what comes from outside at its worst: inputs that are cut or too long, reads and writes that fail, each in
-// turn, and devices that give and take one byte at a time.
-use crate::cases::{Case, RUN, made, quiet_case};
+// The program at what comes from outside at its worst: inputs that are cut, too long or without an end, reads and writes that
+// fail, each in turn, and devices that give and take one byte at a time.
+use crate::cases::{Case, RUN, made, quiet_case, texts};
 use crate::line::fault_line;
 use crate::run_tests::{ELEVEN, NIGHTLY};
-use bq_model::{Text, TextRefused};
+use crate::tests::Endless;
+use crate::top::top;
+use crate::verdict_line::verdict_line;
+use bq_model::{MemorySink, Text, TextRefused};
+use bulk_dispatcher::NoGate;
 use job_text::{JobFile, print_reply, read_jobs};
 use job_work::answer;
 use std::alloc::{AllocError, Global};
 use std::process::Abort;
 use std::test::Fail;
 use std::thread::Threads;
+use trace_text::{Verdict, check_history, play_schedule};
 
 const HISTORY: &[u8] = b"bqhist 1\ncallers 2\ngroup 0 0 e1 e2\ngroup 1 0 d1 d2 d-\n";
 
@@ -23,7 +28,7 @@ const PLAYED: &[u8] = b"bqhist 1\ncallers 2\ngroup 0 0 e5 e6 d5\ngroup 1 0 d6\n#
 const MADE: &[u8] =
     b"bqjobs 1\njob 0 sum 0 1\nblock 1\nput digest 00000001\nput count 00 00000002\nend\n";
 
-const USAGE: &[u8] =
+pub const USAGE: &[u8] =
     b"usage: bqd run <hands> <batch> | check | play | gen <n> | drill <n> <hands> <batch>\n";
 
 /// A call that reads no input.
@@ -240,6 +245,74 @@ fn file_that_is_cut_is_answered_or_refused(rt: HostRuntime) -> Result<(), Fail> 
     Ok(())
 }
 
+/// Cut within the number of a dequeue it is illegal.
+const LONG_HISTORY: &[u8] =
+    b"bqhist 1\n# two callers\ncallers 2\ngroup 0 0 e10 e20\ngroup 1 0 d10\n\n  group 0 1 e30 d20 d30 d-\n";
+
+/// Checks this text, demands that it is judged or refused as it should be, and gives the status.
+fn checked<R: Threads + Abort + Sync>(rt: &R, alloc: Global, input: &[u8]) -> Result<u8, Fail> {
+    match check_history(alloc, input) {
+        Ok(verdict) => {
+            let status = u8::from(matches!(verdict, Verdict::Illegal { .. }));
+            let line = verdict_line(verdict);
+            let case = judged(&["check"], input, status, line.as_bytes());
+            made(rt, alloc, &case)?;
+            Ok(status)
+        }
+        Err(TextRefused::Text(fault)) => {
+            let line = fault_line(fault);
+            let case = quiet_case(&["check"], input, 3, b"", line.as_bytes());
+            made(rt, alloc, &case)?;
+            Ok(3)
+        }
+        Err(TextRefused::Memory) => panic!(rt; "memory was lacking"),
+    }
+}
+
+#[test]
+fn history_that_is_cut_is_judged_or_refused(rt: HostRuntime) -> Result<(), Fail> {
+    let (mut legal, mut illegal, mut refused): (usize, usize, usize) = (0, 0, 0);
+    for length in 0..LONG_HISTORY.len() {
+        let input = LONG_HISTORY.get(..length).unwrap_or(b"");
+        match checked(&rt, rt.alloc(), input)? {
+            0 => legal = legal.saturating_add(1),
+            1 => illegal = illegal.saturating_add(1),
+            _ => refused = refused.saturating_add(1),
+        }
+    }
+    assert!(rt;
+        illegal == 3 && legal > 0 && refused > 0,
+        "{legal} were legal, {illegal} illegal, and {refused} refused"
+    );
+    Ok(())
+}
+
+#[test]
+fn schedule_that_is_cut_is_played_or_refused(rt: HostRuntime) -> Result<(), Fail> {
+    let mut played: usize = 0;
+    for length in 0..SCHEDULE.len() {
+        let input = SCHEDULE.get(..length).unwrap_or(b"");
+        match play_schedule(rt.alloc(), input) {
+            Ok(text) => {
+                played = played.saturating_add(1);
+                let case = judged(&["play"], input, 0, text.as_slice());
+                made(&rt, rt.alloc(), &case)?;
+            }
+            Err(TextRefused::Text(fault)) => {
+                let line = fault_line(fault);
+                let case = quiet_case(&["play"], input, 3, b"", line.as_bytes());
+                made(&rt, rt.alloc(), &case)?;
+            }
+            Err(TextRefused::Memory) => panic!(rt; "memory was lacking"),
+        }
+    }
+    assert!(rt;
+        0 < played && played < SCHEDULE.len(),
+        "{played} were played"
+    );
+    Ok(())
+}
+
 /// The header of such a text, and then zeros, one byte more than a text may have.
 fn long_text(alloc: Global, header: &[u8]) -> Result<Vec<u8>, AllocError> {
     let mut input = Vec::from_slice(alloc, header)?;
@@ -261,6 +334,38 @@ fn texts_that_are_too_long_are_refused(rt: HostRuntime) -> Result<(), Fail> {
             ..quiet_case(words, &input, 3, b"", b"bqd: line 0: too long\n")
         };
         made(&rt, rt.alloc(), &whole)?;
+    }
+    Ok(())
+}
+
+#[test]
+fn input_without_an_end_is_refused_or_left(rt: HostRuntime) -> Result<(), Fail> {
+    // 256 pieces of 65,536 bytes, and one byte; and no read at all.
+    let table: [(&[&str], u8, &[u8], u64); 6] = [
+        (RUN, 3, b"bqd: line 0: too long\n", 257),
+        (&["check"], 3, b"bqd: line 0: too long\n", 257),
+        (&["play"], 3, b"bqd: line 0: too long\n", 257),
+        (&["gen", "3"], 0, b"", 0),
+        (&["drill", "1", "1", "1"], 0, b"", 0),
+        (&["run"], 2, USAGE, 0),
+    ];
+    for (words, status, line, reads) in table {
+        let words = texts(rt.alloc(), words)?;
+        let mut source = Endless { reads: 0 };
+        let mut out = MemorySink::new(rt.alloc(), 1 << 10, 1 << 10, Vec::new(rt.alloc()))?;
+        let mut err = MemorySink::new(rt.alloc(), 1 << 10, 1 << 10, Vec::new(rt.alloc()))?;
+        let ended = top(
+            &rt,
+            rt.alloc(),
+            &words,
+            &mut source,
+            &mut out,
+            &mut err,
+            &NoGate,
+        );
+        assert_eq!(rt; ended.status, status, "{words:?}");
+        assert!(rt; err.bytes() == line, "{words:?}");
+        assert_eq!(rt; source.reads, reads, "{words:?}");
     }
     Ok(())
 }

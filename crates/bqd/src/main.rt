@@ -15,6 +15,8 @@ mod ended;
 mod file;
 #[cfg(test)]
 mod hostile_tests;
+#[cfg(test)]
+mod hostile_words;
 mod input;
 mod jobs;
 mod line;

@@ -36,10 +36,10 @@ impl Source for Drip<'_> {
     }
 }
 
-/// A source without an end.
+/// A source without an end, which counts its reads.
 #[derive(Drop)]
-struct Endless {
-    reads: u64,
+pub struct Endless {
+    pub reads: u64,
 }
 
 impl Source for Endless {

@@ -82,7 +82,13 @@ fn histories_are_checked(rt: HostRuntime) -> Result<(), Fail> {
 
 #[test]
 fn schedules_are_played(rt: HostRuntime) -> Result<(), Fail> {
-    let table: [(&[u8], u8, &[u8], &[u8]); 4] = [
+    let table: [(&[u8], u8, &[u8], &[u8]); 5] = [
+        (
+            b"bqplay 1\nshape 2 4 8 100 0\nstart 0 e5 e6 d\nuntil 0 install\nstart 1 d\nfinish 1\n",
+            0,
+            b"bqhist 1\ncallers 2\ngroup 1 0 d-\n# unfinished 0\n",
+            b"",
+        ),
         (
             b"bqplay 1\nshape 2 4 8 100 0\nstart 0 e5 e6 d\nuntil 0 link_chain\nstart 1 d\nfinish 1\n",
             0,

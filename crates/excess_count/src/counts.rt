@@ -4,7 +4,7 @@ ghost use Rattle.bq_model.specs.declared.op.Op.{Op};
 ghost use Rattle.bq_model.specs.Replay.{answers_from, queue_from};
 ghost use Rattle.excess_count.specs.Excess.{IsExcess};
 ghost use Rattle.excess_count.specs.Got.{got_count, values_from};
-ghost use Rattle.excess_count.specs.Counts.{counts_of, successes_of};
+ghost use Rattle.excess_count.specs.Counts.{counts_of, successes_of, with_one_more};
 
 use bq_model::{Batch, Op};
 
@@ -45,6 +45,7 @@ impl Counts {
     /// Counts one operation more, behind those so far.
     pub fn add(&mut self, op: Op)
         requires { self.old.enqs + self.old.deqs < u32.MAX }
+        ensures the_three_numbers { self.new ≡ with_one_more self.old op }
         ensures counts_one_more { (ops : List Op) → self.old ≡ counts_of ops → self.new ≡ counts_of (ops ++ op ∷ []) }
         ensures excess_stays_within_dequeues { self.old.excess ≤ self.old.deqs → self.new.excess ≤ self.new.deqs }
         ensures the_operation_is_counted { self.new.enqs + self.new.deqs ≡ self.old.enqs + self.old.deqs + 1 }

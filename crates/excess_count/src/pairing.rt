@@ -20,6 +20,7 @@ struct Standing {
 pub fn answer_all(batch: &Batch, n: u64, values: &[u64], out: &mut Answers)
     requires as_many_values { length values.now ≡ successes_of (counts_of batch.now.items) n }
     requires room { length batch.now.items ≤ out.old.capacity }
+    ensures answers { out.new.items ≡ paired batch.now.items n values.now }
     ensures answers_of_the_replay { (q : List ℕ) → length q ≡ n
         → values.now ≡ take (length values.now) (values_from q batch.now.items)
         → out.new.items ≡ answers_from q batch.now.items }

@@ -88,6 +88,10 @@ module _ {id : TableId} {key s : Shape} {c : ℕ} {f : ℕ → Caller → Caller
 pub then_next : {id : TableId} {key s : Shape} {c : ℕ} {u : Point} {a : Scratch} {p q : Seat ℕ View} → IsNext id key s c a p q (Goes u) → (b : Scratch) (r : Seat ℕ View) (y : Next) → IsNext id key s c b q r y → IsNext id key s c b p r y
 then_next {id} {key} {s} {c} {p} {q} is b r y after = let less = is.2 in next_then id key s c b p q r y is.1 (omega (arith, less)) after
 
+-- what comes next of it, in other words
+pub is_told : (id : TableId) (key s : Shape) (c : ℕ) (a : Scratch) (p q : Seat ℕ View) (y z : Next) → z ≡ y → IsNext id key s c a p q y → IsNext id key s c a p q z
+is_told id key s c a p q y z same is = subst (λ (x : Next). IsNext id key s c a p q x) (sym same) is
+
 -- what its hazard words name has changed at hand
 pub same_row_hold : (a : Scratch) (h : Hold) → SamePuts a (record a { row_hold = h })
 same_row_hold a h = record { puts = refl; room = record { puts = refl; rows = refl; values = refl; walked = refl; retired = refl; named = refl } }

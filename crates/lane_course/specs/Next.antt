@@ -1,5 +1,7 @@
 -- What follows a step of a running command.
-use Rattle.std.specs.Prelude.{◌≡◌, ℕ}
+use Rattle.std.specs.Prelude.{◌≡◌, ℕ, Option, None, Some}
+use Rattle.lane_steps.specs.declared.point.Closing.{Closing}
+use Rattle.lane_steps.specs.declared.point.Point.{Point}
 use Rattle.lane_steps.specs.State.{Caller}
 use Rattle.lane_steps.specs.Step.{ended}
 use Rattle.lane_course.specs.declared.next.Next.{Next}
@@ -12,3 +14,8 @@ use Rattle.lane_course.specs.Scratch.{keeping}
 abbrev pub Becomes : ℕ → ℕ → Caller → Scratch → Next → Caller → Type 0
 Becomes n c k a (Goes t) w = w ≡ record (keeping k a) { point = t }
 Becomes n c k a (Ends x) w = w ≡ ended n c (keeping k a) x
+
+-- what comes next, told by how the command ended, if it did, and by the point where it goes on, if it does.
+abbrev pub told : Option Closing → Point → Next
+told None t = Goes t
+told (Some x) t = Ends x

@@ -5,7 +5,7 @@ ghost use Rattle.lane_steps.specs.LaneSizes.{lane_sizes};
 ghost use Rattle.lane_steps.specs.State.{Caller};
 ghost use Rattle.lane_steps.specs.Step.{course, followed};
 ghost use Rattle.lane_steps.specs.Ranges.{RowsFit};
-ghost use Rattle.lane_course.specs.Next.{Becomes};
+ghost use Rattle.lane_course.specs.Next.{Becomes, told};
 ghost use Rattle.lane_course.specs.Scratch.{keeping, HasRoom, SamePuts};
 
 use crate::call_end::{clear_ann, close, free_next, lose, mark, mark_all, pass, scan, scan_on};
@@ -24,6 +24,32 @@ pub enum Next {
     Goes(Point),
     /// Nothing: it ended so, and its answers are found so.
     Ends(Closing),
+}
+
+impl Next {
+    /// Tells how the command ended, if it did, and else puts in its place the point where it goes on.
+    #[inline(never)]
+    pub fn tell(self, goes: &mut Point) -> Option<Closing>
+        ensures { told result goes.new ≡ self }
+    {
+        match self {
+            Next::Goes(point) => {
+                *goes = point;
+                None
+            }
+            Next::Ends(closing) => Some(closing),
+        }
+    }
+
+    /// What comes next, where that was told so.
+    pub fn of(end: Option<Closing>, goes: Point) -> Next
+        ensures { result ≡ told end goes }
+    {
+        match end {
+            Some(closing) => Next::Ends(closing),
+            None => Next::Goes(goes),
+        }
+    }
 }
 
 /// What comes after the step of this caller at this point that found this.

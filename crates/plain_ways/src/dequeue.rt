@@ -10,12 +10,14 @@ ghost use Rattle.lane_steps.specs.declared.point.Point.TheVariants.{Guard, Deque
 ghost use Rattle.lane_steps.specs.declared.point.Guarding.TheVariants as guarding;
 ghost use Rattle.lane_steps.specs.declared.point.GuardPoint.TheVariants.{StoreHazard};
 ghost use Rattle.lane_steps.specs.declared.point.DequeuePoint.TheVariants.{LoadHead, LoadLink, LoadTail, LoadValue};
+ghost use Rattle.lane_course.specs.Next.{told};
 ghost use Rattle.lane_course.specs.Running.{Agrees, Running, IsNext, begun_seat};
 ghost use Rattle.lane_course.specs.Scratch.{Reserves, SamePuts};
 
 use crate::end_way::{finish, finish_row};
+use crate::leave::{dequeue_at, follow_dequeue};
 use bq_model::{Answer, Shape};
-use lane_course::{Next, Scratch, follow};
+use lane_course::Scratch;
 use lane_rule::{Command, Token, Words, exchange, first_load, load, store};
 use lane_steps::{Closing, DequeuePoint, Hold, Point, head_in, link_in, tail_in, value_in};
 use word_rows::{Content, HeadWord, LinkWord, Location, Place};
@@ -45,10 +47,11 @@ fn take_value(
     token: &mut Token,
     dummy: Place,
     row: u32,
+    goes: &mut Point,
     scratch: &mut Scratch,
-) -> Next
+) -> Option<Closing>
     requires { Running words.now.table_id words.now.key shape.now caller (Dequeue (LoadValue dummy row)) scratch.old token.old }
-    ensures next { IsNext words.now.table_id words.now.key shape.now caller scratch.new token.old token.new result }
+    ensures next { IsNext words.now.table_id words.now.key shape.now caller scratch.new token.old token.new (told result goes.new) }
     ensures same { SamePuts scratch.old scratch.new }
 {
     let value = value_in(load(words, shape, token, Location::Value { row }));
@@ -62,9 +65,9 @@ fn take_value(
     if names(found, dummy) {
         let closing = Closing::Plain(Answer::Got(value));
         finish_row(words, shape, caller, token, closing, dummy, row, scratch);
-        Next::Ends(closing)
+        Some(closing)
     } else {
-        Next::Goes(Point::Dequeue(DequeuePoint::LoadHead))
+        dequeue_at(DequeuePoint::LoadHead, goes)
     }
 }
 
@@ -77,17 +80,18 @@ fn pass_tail(
     token: &mut Token,
     dummy: Place,
     row: u32,
+    goes: &mut Point,
     scratch: &mut Scratch,
-) -> Next
+) -> Option<Closing>
     requires { Running words.now.table_id words.now.key shape.now caller (Dequeue (LoadTail dummy row)) scratch.old token.old }
-    ensures next { IsNext words.now.table_id words.now.key shape.now caller scratch.new token.old token.new result }
+    ensures next { IsNext words.now.table_id words.now.key shape.now caller scratch.new token.old token.new (told result goes.new) }
     ensures same { SamePuts scratch.old scratch.new }
 {
     let found = load(words, shape, token, Location::Tail);
     if lags(found, dummy) {
-        Next::Goes(Point::Dequeue(DequeuePoint::PassTail { dummy, row }))
+        dequeue_at(DequeuePoint::PassTail { dummy, row }, goes)
     } else {
-        take_value(words, shape, caller, token, dummy, row, scratch)
+        take_value(words, shape, caller, token, dummy, row, goes, scratch)
     }
 }
 
@@ -99,23 +103,26 @@ fn look_behind(
     caller: u32,
     token: &mut Token,
     dummy: Place,
+    goes: &mut Point,
     scratch: &mut Scratch,
-) -> Next
+) -> Option<Closing>
     requires { Running words.now.table_id words.now.key shape.now caller (Dequeue (LoadLink dummy)) scratch.old token.old }
-    ensures next { IsNext words.now.table_id words.now.key shape.now caller scratch.new token.old token.new result }
+    ensures next { IsNext words.now.table_id words.now.key shape.now caller scratch.new token.old token.new (told result goes.new) }
     ensures same { SamePuts scratch.old scratch.new }
 {
     let found = load(words, shape, token, Location::Link { row: dummy.row });
     match link_in(found) {
-        LinkWord::Single(row) => pass_tail(words, shape, caller, token, dummy, row, scratch),
+        LinkWord::Single(row) => {
+            pass_tail(words, shape, caller, token, dummy, row, goes, scratch)
+        }
         LinkWord::Nil => {
             let closing = Closing::Plain(Answer::Empty);
             finish(words, shape, caller, token, closing, scratch);
-            Next::Ends(closing)
+            Some(closing)
         }
         _ => {
-            let point = Point::Dequeue(DequeuePoint::LoadLink(dummy));
-            follow(shape, caller, point, found, scratch)
+            let at = DequeuePoint::LoadLink(dummy);
+            follow_dequeue(shape, caller, at, found, goes, scratch)
         }
     }
 }
@@ -128,10 +135,11 @@ fn hold_dummy(
     caller: u32,
     token: &mut Token,
     dummy: Place,
+    goes: &mut Point,
     scratch: &mut Scratch,
-) -> Next
+) -> Option<Closing>
     requires { Running words.now.table_id words.now.key shape.now caller (Guard (guarding.Dequeue dummy) StoreHazard) scratch.old token.old }
-    ensures next { IsNext words.now.table_id words.now.key shape.now caller scratch.new token.old token.new result }
+    ensures next { IsNext words.now.table_id words.now.key shape.now caller scratch.new token.old token.new (told result goes.new) }
     ensures same { SamePuts scratch.old scratch.new }
 {
     let named = Content::OfNodeHazard(Some(dummy.row));
@@ -140,9 +148,9 @@ fn hold_dummy(
     let again = load(words, shape, token, Location::Head);
     if names(again, dummy) {
         scratch.row_hold = Hold::Held(dummy.row);
-        look_behind(words, shape, caller, token, dummy, scratch)
+        look_behind(words, shape, caller, token, dummy, goes, scratch)
     } else {
-        Next::Goes(Point::Dequeue(DequeuePoint::LoadHead))
+        dequeue_at(DequeuePoint::LoadHead, goes)
     }
 }
 
@@ -152,18 +160,19 @@ pub fn dequeue_on(
     shape: &Shape,
     caller: u32,
     token: &mut Token,
+    goes: &mut Point,
     scratch: &mut Scratch,
-) -> Next
+) -> Option<Closing>
     requires { Running words.now.table_id words.now.key shape.now caller (Dequeue LoadHead) scratch.old token.old }
-    ensures next { IsNext words.now.table_id words.now.key shape.now caller scratch.new token.old token.new result }
+    ensures next { IsNext words.now.table_id words.now.key shape.now caller scratch.new token.old token.new (told result goes.new) }
     ensures same { SamePuts scratch.old scratch.new }
 {
     let found = load(words, shape, token, Location::Head);
     match head_in(found) {
-        HeadWord::Node(dummy) => hold_dummy(words, shape, caller, token, dummy, scratch),
+        HeadWord::Node(dummy) => hold_dummy(words, shape, caller, token, dummy, goes, scratch),
         _ => {
-            let point = Point::Dequeue(DequeuePoint::LoadHead);
-            follow(shape, caller, point, found, scratch)
+            let at = DequeuePoint::LoadHead;
+            follow_dequeue(shape, caller, at, found, goes, scratch)
         }
     }
 }
@@ -174,8 +183,9 @@ pub fn dequeue_first<C: Command>(
     shape: &Shape,
     caller: u32,
     token: &mut Token,
+    goes: &mut Point,
     scratch: &mut Scratch,
-) -> Next
+) -> Option<Closing>
     requires idle { IsIdle words.now.table_id words.now.key shape.now caller C.ops (Dequeue LoadHead) token.old }
     requires known { caller < shape.now.callers }
     requires puts { scratch.old.puts.items ≡ enqueued C.ops }
@@ -184,13 +194,16 @@ pub fn dequeue_first<C: Command>(
     requires few { length token.old.me.0.kept.retired < shape.now.callers }
     requires apart { Distinct token.old.me.0.kept.retired }
     ensures next { (n : ℕ) × (length token.old.me.0.seen ≤ n)
-        × IsNext words.now.table_id words.now.key shape.now caller scratch.new (begun_seat token.old n C.ops) token.new result }
+        × IsNext words.now.table_id words.now.key shape.now caller scratch.new (begun_seat token.old n C.ops) token.new (told result goes.new) }
     ensures same { SamePuts scratch.old scratch.new }
 {
     let point = Point::Dequeue(DequeuePoint::LoadHead);
     let found = first_load::<C>(words, shape, caller, token, point, Location::Head);
     match head_in(found) {
-        HeadWord::Node(dummy) => hold_dummy(words, shape, caller, token, dummy, scratch),
-        _ => follow(shape, caller, point, found, scratch),
+        HeadWord::Node(dummy) => hold_dummy(words, shape, caller, token, dummy, goes, scratch),
+        _ => {
+            let at = DequeuePoint::LoadHead;
+            follow_dequeue(shape, caller, at, found, goes, scratch)
+        }
     }
 }

@@ -8,14 +8,17 @@ ghost use Rattle.lane_steps.specs.declared.point.EnqueuePoint.TheVariants.{LoadT
 ghost use Rattle.lane_steps.specs.declared.point.TakePoint.TheVariants.{LoadMark, ClearMark};
 ghost use Rattle.lane_steps.specs.declared.point.Taking.TheVariants as taking;
 ghost use Rattle.lane_rule.specs.Plays.{IsIdle};
+ghost use Rattle.lane_course.specs.declared.next.Next.TheVariants.{Ends};
 ghost use Rattle.lane_course.specs.Along.{Along};
+ghost use Rattle.lane_course.specs.Next.{told};
 ghost use Rattle.lane_course.specs.Running.{Agrees, Running, IsNext, begun_seat};
 ghost use Rattle.lane_course.specs.Scratch.{Reserves, SamePuts};
 
 use crate::end_way::finish;
+use crate::leave::{close_full, enqueue_at};
 use crate::row_search::find;
 use bq_model::{Answer, Shape};
-use lane_course::{Next, Scratch, close};
+use lane_course::Scratch;
 use lane_rule::{Command, Token, Words, exchange, first_load, load, store};
 use lane_steps::{
     Closing, EnqueuePoint, Hold, Item, Point, TakePoint, Taking, link_in, mark_in, tail_in,
@@ -31,16 +34,20 @@ pub fn put(
     value: u64,
     first: u32,
     behind: u32,
+    goes: &mut Point,
     scratch: &mut Scratch,
-) -> Next
+) -> Option<Closing>
     requires { Running words.now.table_id words.now.key shape.now caller (Take (taking.Enqueue value) (LoadMark first behind)) scratch.old token.old }
-    ensures next { IsNext words.now.table_id words.now.key shape.now caller scratch.new token.old token.new result }
+    ensures next { IsNext words.now.table_id words.now.key shape.now caller scratch.new token.old token.new (told result goes.new) }
     ensures same { SamePuts scratch.old scratch.new }
 {
     let taking = Taking::Enqueue(value);
     match find(words, shape, caller, token, taking, first, behind, scratch) {
-        Some(row) => put_into(words, shape, caller, token, Item { row, value }, scratch),
-        None => close(Closing::Full, scratch),
+        Some(row) => {
+            let item = Item { row, value };
+            put_into(words, shape, caller, token, item, goes, scratch)
+        }
+        None => close_full(goes, scratch),
     }
 }
 
@@ -53,8 +60,9 @@ pub fn put_first<C: Command>(
     value: u64,
     row: u32,
     left: u32,
+    goes: &mut Point,
     scratch: &mut Scratch,
-) -> Next
+) -> Option<Closing>
     requires idle { IsIdle words.now.table_id words.now.key shape.now caller C.ops (Take (taking.Enqueue value) (LoadMark row left)) token.old }
     requires known { caller < shape.now.callers }
     requires puts { scratch.old.puts.items ≡ enqueued C.ops }
@@ -63,21 +71,24 @@ pub fn put_first<C: Command>(
     requires few { length token.old.me.0.kept.retired < shape.now.callers }
     requires apart { Distinct token.old.me.0.kept.retired }
     ensures next { (n : ℕ) × (length token.old.me.0.seen ≤ n)
-        × IsNext words.now.table_id words.now.key shape.now caller scratch.new (begun_seat token.old n C.ops) token.new result }
+        × IsNext words.now.table_id words.now.key shape.now caller scratch.new (begun_seat token.old n C.ops) token.new (told result goes.new) }
     ensures same { SamePuts scratch.old scratch.new }
 {
     let point = Point::Take(Taking::Enqueue(value), TakePoint::LoadMark { row, left });
     let mark = Location::Mark { row };
     let found = first_load::<C>(words, shape, caller, token, point, mark);
     if mark_in(found).free {
-        return put_into(words, shape, caller, token, Item { row, value }, scratch);
+        let item = Item { row, value };
+        return put_into(words, shape, caller, token, item, goes, scratch);
     }
     if left == 0 {
-        return close(Closing::Full, scratch);
+        return close_full(goes, scratch);
     }
     let next = row + 1;
     let left = left - 1;
-    put(words, shape, caller, token, value, next, left, scratch)
+    put(
+        words, shape, caller, token, value, next, left, goes, scratch,
+    )
 }
 
 /// The same, from its free row on.
@@ -87,10 +98,11 @@ pub fn put_into(
     caller: u32,
     token: &mut Token,
     item: Item,
+    goes: &mut Point,
     scratch: &mut Scratch,
-) -> Next
+) -> Option<Closing>
     requires { Running words.now.table_id words.now.key shape.now caller (Take (taking.Enqueue item.value) (ClearMark item.row)) scratch.old token.old }
-    ensures next { IsNext words.now.table_id words.now.key shape.now caller scratch.new token.old token.new result }
+    ensures next { IsNext words.now.table_id words.now.key shape.now caller scratch.new token.old token.new (told result goes.new) }
     ensures same { SamePuts scratch.old scratch.new }
 {
     let row = item.row;
@@ -120,7 +132,7 @@ pub fn put_into(
         Location::Value { row },
         Content::OfValue(item.value),
     );
-    link(words, shape, caller, token, item, scratch)
+    link(words, shape, caller, token, item, goes, scratch)
 }
 
 // Whether a link names no row.
@@ -198,7 +210,7 @@ fn link_single(
     is_nil(link_in(found))
 }
 
-// It moves the tail over its row, and is done.
+// It moves the tail over its row, and is done. Gives how it ended.
 #[inline(always)]
 fn move_tail(
     words: &Words,
@@ -208,9 +220,9 @@ fn move_tail(
     item: Item,
     tail: Place,
     scratch: &mut Scratch,
-) -> Next
+) -> Closing
     requires { Running words.now.table_id words.now.key shape.now caller (Enqueue item (MoveTail tail item.row)) scratch.old token.old }
-    ensures next { IsNext words.now.table_id words.now.key shape.now caller scratch.new token.old token.new result }
+    ensures next { IsNext words.now.table_id words.now.key shape.now caller scratch.new token.old token.new (Ends result) }
     ensures same { SamePuts scratch.old scratch.new }
 {
     let place = Place {
@@ -227,7 +239,7 @@ fn move_tail(
     );
     let closing = Closing::Plain(Answer::Done);
     finish(words, shape, caller, token, closing, scratch);
-    Next::Ends(closing)
+    closing
 }
 
 /// The same, from its filled row on.
@@ -237,10 +249,11 @@ pub fn link(
     caller: u32,
     token: &mut Token,
     item: Item,
+    goes: &mut Point,
     scratch: &mut Scratch,
-) -> Next
+) -> Option<Closing>
     requires { Running words.now.table_id words.now.key shape.now caller (Enqueue item LoadTail) scratch.old token.old }
-    ensures next { IsNext words.now.table_id words.now.key shape.now caller scratch.new token.old token.new result }
+    ensures next { IsNext words.now.table_id words.now.key shape.now caller scratch.new token.old token.new (told result goes.new) }
     ensures same { SamePuts scratch.old scratch.new }
 {
     'tries: loop {
@@ -249,15 +262,14 @@ pub fn link(
         match link_in(found) {
             LinkWord::Nil => {
                 if link_single(words, shape, caller, token, item, tail, scratch) {
-                    return move_tail(words, shape, caller, token, item, tail, scratch);
+                    return Some(move_tail(words, shape, caller, token, item, tail, scratch));
                 }
             }
             LinkWord::Single(row) => {
-                let point = EnqueuePoint::PassTail { tail, row };
-                return Next::Goes(Point::Enqueue(item, point));
+                return enqueue_at(item, EnqueuePoint::PassTail { tail, row }, goes);
             }
-            LinkWord::Chain(_) => return Next::Goes(Point::Enqueue(item, EnqueuePoint::LoadHead)),
-            LinkWord::Shut => return Next::Goes(Point::Enqueue(item, EnqueuePoint::LoadTail)),
+            LinkWord::Chain(_) => return enqueue_at(item, EnqueuePoint::LoadHead, goes),
+            LinkWord::Shut => return enqueue_at(item, EnqueuePoint::LoadTail, goes),
         }
     }
 }

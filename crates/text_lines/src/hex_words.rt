@@ -1,5 +1,6 @@
 // Hex words and byte words, read and printed.
-ghost use Rattle.std.specs.Prelude.{◌≡◌, ◌++◌, IfOk, OnOk, OnErr};
+ghost use Rattle.hex.specs.Hex.{encode_lower};
+ghost use Rattle.std.specs.Prelude.{◌≡◌, ℕ, ◌++◌, take, IfOk, OnOk, OnErr};
 ghost use Rattle.text_lines.specs.Hex.{hex_of, byte_of};
 ghost use Rattle.text_lines.specs.Printed.{printed_hex, printed_byte};
 
@@ -40,9 +41,10 @@ pub fn byte_word(word: &[u8]) -> Option<u8>
 }
 
 /// Appends the hex word of these bytes: `-` for none, else two digits in lower case for each. Where memory is lacking,
-/// a front of the word may stand there.
+/// the digits of the first bytes may stand there.
 pub fn append_hex_word(text: &mut Text, bytes: &[u8]) -> Result<(), OutOfMemory>
-    ensures { OnOk result (text.new ≡ text.old ++ printed_hex bytes.now) }
+    ensures ok { OnOk result (text.new ≡ text.old ++ printed_hex bytes.now) }
+    ensures err { OnErr result ((k : ℕ) × (text.new ≡ text.old ++ encode_lower (take k bytes.now))) }
 {
     if bytes.is_empty() {
         return text.append_parts(&[b"-"]);

@@ -9,3 +9,9 @@ seats_of-requires-clause-one_caller c = of_one (λ (p : PassState). p.callers) c
 
 pub put_all-requires-clause-one_each : goal.put_all-requires-clause-one_each
 put_all-requires-clause-one_each c = c.in_ok-seats.ensures.one_each ∙ (as_many_passes (λ (p : PassState). p.callers) c.in_ok-made.made.1.items c.args.shape.now.callers c.in_ok-made.ensures.one_pass_each ∙ sym c.requires.one_each)
+
+pub returns-clause-one_lane : goal.returns-clause-one_lane
+returns-clause-one_lane c = record {
+  lane = c.in_ok-lane.lane.value;
+  each = c.put_all.ensures.of_this_lane;
+}

@@ -1,5 +1,6 @@
 use Rattle.std.proofs.Common.{◌≡◌, ◌+◌, [], length, All}
 use Rattle.std.specs.Arc.{arc_value}
+use Rattle.bq_c.specs.Gathering.{OneCallerOf}
 use Rattle.bq_c.proofs.seating.seats_of.Given as goal
 
 abbrev pub invariant-loop-pass : goal.invariant-loop-pass
@@ -9,6 +10,7 @@ invariant-loop-pass l = record {
   callers : All (λ pass. length pass.callers ≡ 1) l.passes.items;
   seen : All (λ pass. pass.seen ≡ []) l.passes.items;
   count : length l.seats.items + length l.passes.items ≡ length l.fn.passes.items;
+  lane : All (λ seat. OneCallerOf (arc_value l.lane) seat.value.pass) l.seats.items;
   seats : All (λ seat. seat.value.pass.seen ≡ []) l.seats.items;
 }
 

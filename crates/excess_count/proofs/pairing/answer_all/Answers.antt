@@ -7,6 +7,9 @@ use Rattle.excess_count.proofs.PairingLaws.{paired_right, length-paired}
 use Rattle.excess_count.proofs.ReplayLaws.{got_count-counted}
 use Rattle.excess_count.proofs.pairing.answer_all.Goals as goal
 
+pub returns-clause-answers : goal.returns-clause-answers
+returns-clause-answers c = c.pair.ensures.answers ∙ ap (λ (os : List Op). paired os c.args.n c.args.values.now) c.as_slice.ensures.items
+
 pub returns-clause-answers_of_the_replay : goal.returns-clause-answers_of_the_replay
 returns-clause-answers_of_the_replay c = λ q long are. let ops = c.args.batch.now.items in let vs = c.args.values.now in
     c.pair.ensures.answers ∙ (ap (λ (os : List Op). paired os c.args.n vs) c.as_slice.ensures.items

@@ -1,23 +1,19 @@
 -- The box is made again of the address and the handle of the heap.
 use mathlib.Core.List.{[], ◌∷◌}
 use mathlib.Core.Path.{◌≡◌, refl, ap, sym, ◌∙◌}
-use lib.Dec.{lit<}
 use base.Fraction.{full_share}
 use base.Fml.{ftrue, flft}
 use base.Logic.{id⊢, emp}
-use mir.Syntax.{impl, tnil, tcons, dnil}
-use mir.Val.{Val}
 use contract.BorrowLft.{◌⊑◌}
 use contract.Monad.{fact, fact_i}
 use contract.Running.{tables}
 use types.Kit.{‵, raw, ◌⊛◌, some, later, at_ret, ◌$◌, ◌∵◌, !, qed, move, keep, drop, split, join, use0, use1, use2, feq_i, pick, await, rewrite, suffices, done}
-use types.Part.{agg, whole, sub}
+use types.Part.{whole, sub}
 use types.Run.{enter, and_then, no_more, of_opd, returns, first, blocks, exec, fld, stop}
 use types.ByLocal.{alloc_all, pass_all, free_all, look_at, get, get_in, sets, lands_last, env}
 use denote.Exit.{yes}
-use denote.Param.{layout}
 use denote.Param.NoDrop.{glues}
-use denote.RawPtr.{Ptr, rawptr_vals, rawptr_Lawful}
+use denote.RawPtr.{rawptr_vals, rawptr_Lawful}
 use denote.Signature.{plain}
 use denote.Laws.{Is, shows}
 use denote.Steps.{nothing, heard, peeks}

@@ -3,8 +3,7 @@ use mathlib.Core.List.{[], ◌∷◌}
 use mathlib.Core.Path.{refl}
 use lib.Dec.{lit<}
 use base.Fml.{ftrue}
-use contract.Running.{tables}
-use types.Kit.{‵, raw, ◌$◌, ◌∵◌, !, qed, drop, join, use1, suffices, done}
+use types.Kit.{‵, raw, ◌$◌, ◌∵◌, !, qed, drop, use1, suffices, done}
 use types.Part.{agg}
 use types.Run.{enter, and_then, no_more, lit, returns}
 use types.ByLocal.{alloc_all, pass_all, free_all, look_at, sets}
