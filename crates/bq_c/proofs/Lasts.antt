@@ -1,6 +1,6 @@
 -- The passes of a new lane, the last of them, and the seats that are put in place of them.
-use Rattle.std.proofs.Common.{◌≡◌, ◌<◌, ◌≤◌, ℕ, ◌+◌, take, set, List, [], ◌∷◌, ◌++◌, map, length, length-append, All, Option, Some, None, IfSome, sym, ap, subst, ◌∙◌, arith}
-use Rattle.std.proofs.lemmas.List.{length-map, length-set, take_all, take_more_set}
+use Rattle.std.proofs.Common.{◌≡◌, ◌<◌, ◌≤◌, ℕ, ◌+◌, take, set, List, [], ◌∷◌, ◌++◌, map, reverse, length, length-append, All, Option, Some, None, IfSome, sym, ap, subst, ◌∙◌, arith}
+use Rattle.std.proofs.lemmas.List.{append-nil, append_assoc, length-map, length-set, map_push, reverse-append, take_all, take_more_set}
 use Rattle.std.proofs.lemmas.List.Elements.{All-from_recursion, All-push, recursion_from_All}
 use Rattle.std.proofs.lemmas.List.FromFn.{length-range_with_len}
 use Rattle.std.specs.List.{AllByRecursion, range_with_len}
@@ -61,3 +61,34 @@ module _ {X : Type 0} (Q : X → Type 0) (xs : List X) (k : ℕ) where
 
   pub all_of_it : length xs ≤ k → All Q (take k xs) → All Q xs
   all_of_it whole a = subst (All Q) (take_all k xs whole) a
+
+-- what a list maps to whose last item was taken
+pub map_last : {P Y : Type 0} (f : P → Y) (ps qs : List P) (o : Option P) → ps ≡ qs ++ option_to_list o → IfSome o (λ p. map f ps ≡ map f qs ++ f p ∷ [])
+map_last f ps qs None is = tt
+map_last f ps qs (Some p) is = ap (map f) is ∙ map_push f qs p
+
+-- Items go over from the end of one list to the end of another: the first list, and behind it what the other maps to,
+-- reversed, say the same before and after.
+module _ {S Y : Type 0} (g : S → Y) where
+  reversed_push : (ss : List S) (s : S) → reverse (map g (ss ++ s ∷ [])) ≡ g s ∷ reverse (map g ss)
+  reversed_push ss s = ap reverse (map_push g ss s) ∙ reverse-append (map g ss) (g s ∷ [])
+
+  pub goes_over : (us vs whole : List Y) (ss ts : List S) (s : S) (x : Y) → us ≡ vs ++ x ∷ [] → ts ≡ ss ++ s ∷ [] → g s ≡ x → us ++ reverse (map g ss) ≡ whole → vs ++ reverse (map g ts) ≡ whole
+  goes_over us vs whole ss ts s x was more same told =
+      ap (λ (zs : List S). vs ++ reverse (map g zs)) more
+      ∙ (ap (λ (ys : List Y). vs ++ ys) (reversed_push ss s)
+      ∙ (ap (λ (y : Y). vs ++ y ∷ reverse (map g ss)) same
+      ∙ (sym (append_assoc vs (x ∷ []) (reverse (map g ss)))
+      ∙ (ap (λ (ys : List Y). ys ++ reverse (map g ss)) (sym was) ∙ told))))
+
+  pub goes_back : (us vs whole : List Y) (ss ts : List S) (s : S) (x : Y) → vs ≡ us ++ x ∷ [] → ss ≡ ts ++ s ∷ [] → g s ≡ x → us ++ reverse (map g ss) ≡ whole → vs ++ reverse (map g ts) ≡ whole
+  goes_back us vs whole ss ts s x is was same told =
+      ap (λ (ys : List Y). ys ++ reverse (map g ts)) is
+      ∙ (append_assoc us (x ∷ []) (reverse (map g ts))
+      ∙ (ap (λ (y : Y). us ++ y ∷ reverse (map g ts)) (sym same)
+      ∙ (ap (λ (ys : List Y). us ++ ys) (sym (reversed_push ts s))
+      ∙ (ap (λ (zs : List S). us ++ reverse (map g zs)) (sym was) ∙ told))))
+
+  pub none_left : (us whole : List Y) (ss : List S) → length ss ≡ 0 → us ++ reverse (map g ss) ≡ whole → us ≡ whole
+  none_left us whole [] none told = sym (append-nil us) ∙ told
+  none_left us whole (s ∷ ss) none told = cc none

@@ -6,6 +6,7 @@
 #![tactic(auto)]
 
 ghost use Rattle.std.specs.Prelude.{◌≡◌, ◌≢◌, ◌↔◌, ◌⊎◌, ◌<◌, [], ◌∷◌, true, length, map, All, Any, IfSome};
+ghost use Rattle.std.specs.List.{range_with_len};
 ghost use Rattle.bq_model.specs.declared.op.Op.{Op};
 ghost use Rattle.bq_model.specs.declared.op.Answer.{Answer};
 ghost use Rattle.bq_model.specs.History.{operations};
@@ -14,7 +15,7 @@ ghost use Rattle.bq_model.specs.Grows.{the_caller, Grew, SawMore, AtSomePoint};
 ghost use Rattle.bq_model.specs.Rooms.{PassesAllowance, PassesRoom};
 ghost use Rattle.bq_model.specs.Limits.{InLimits};
 ghost use Rattle.bq_c.specs.Crossing.{IsKnown, op_of, Applied};
-ghost use Rattle.bq_c.specs.Gathering.{OfOneLane, Gathered};
+ghost use Rattle.bq_c.specs.Gathering.{OfOneLane, Gathered, callers_of};
 
 mod address;
 mod crossing;
@@ -59,6 +60,7 @@ pub extern "C" fn bq_make(
     ensures in_use { (result ≡ 7) ↔ (InLimits (length passes.old) batch room allowance 0 × Any (λ pass. pass.state ≡ 1) passes.old) }
     ensures made { result ≡ 0 → All (λ pass. (pass.state ≡ 1) × IfSome pass.address.seat (λ seat. seat.pass.seen ≡ [])) passes.new }
     ensures one_lane { result ≡ 0 → OfOneLane passes.new }
+    ensures one_caller_each { result ≡ 0 → map callers_of passes.new ≡ map (λ c. c ∷ []) (range_with_len 0 (length passes.old)) }
     ensures refused_changes_nothing { result ≢ 0 → passes.new ≡ passes.old }
 {
     let Ok(callers) = u32::try_from(passes.len()) else {

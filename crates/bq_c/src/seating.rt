@@ -1,7 +1,8 @@
 // A new lane, with a seat for each of its callers.
-ghost use Rattle.std.specs.Prelude.{◌≡◌, ◌+◌, [], length, All, IfSome, IfNone, IfOk, OnOk, OnErr};
+ghost use Rattle.std.specs.Prelude.{◌≡◌, ◌+◌, [], ◌∷◌, ◌++◌, length, map, reverse, All, IfSome, IfNone, IfOk, OnOk, OnErr};
 ghost use Rattle.std.specs.Arc.{arc_value};
-ghost use Rattle.bq_c.specs.Gathering.{OneCallerOf, OfOneLane};
+ghost use Rattle.std.specs.List.{range_with_len};
+ghost use Rattle.bq_c.specs.Gathering.{OneCallerOf, OfOneLane, callers_of};
 
 use crate::pass::BqPass;
 use crate::seat::Seat;
@@ -25,6 +26,7 @@ fn last_pass(lane: &Arc<BqLane>, passes: &mut Vec<Pass>) -> Option<Pass>
     ensures nothing_seen { All (λ pass. pass.seen ≡ []) passes.new.items }
     ensures all_taken { IfNone result (passes.old.items ≡ []) }
     ensures one_less { IfSome result (λ _. length passes.new.items + 1 ≡ length passes.old.items) }
+    ensures callers { IfSome result (λ pass. map (λ p. p.callers) passes.old.items ≡ map (λ p. p.callers) passes.new.items ++ pass.callers ∷ []) }
 {
     let _shared = lane;
     passes.pop()
@@ -44,6 +46,7 @@ fn seats_of(
     requires nothing_seen { All (λ pass. pass.seen ≡ []) passes.items }
     ensures one_each { IfOk result (λ seats. length seats.items ≡ length passes.items) }
     ensures nothing_seen { IfOk result (λ seats. All (λ seat. seat.value.pass.seen ≡ []) seats.items) }
+    ensures callers { IfOk result (λ seats. reverse (map (λ seat. seat.value.pass.callers) seats.items) ≡ map (λ pass. pass.callers) passes.items) }
     ensures of_this_lane { IfOk result (λ seats. All (λ seat. OneCallerOf (arc_value lane.now) seat.value.pass) seats.items) }
 {
     let mut seats = Vec::new(alloc);
@@ -60,6 +63,7 @@ fn put_all(lane: &Arc<BqLane>, mut seats: Vec<Box<Seat>>, out: &mut [BqPass])
     requires nothing_seen { All (λ seat. seat.value.pass.seen ≡ []) seats.items }
     requires of_this_lane { All (λ seat. OneCallerOf (arc_value lane.now) seat.value.pass) seats.items }
     ensures of_this_lane { All (λ pass. IfSome pass.address.seat (λ seat. OneCallerOf (arc_value lane.now) seat.pass)) out.new }
+    ensures callers { map callers_of out.new ≡ reverse (map (λ seat. seat.value.pass.callers) seats.items) }
     ensures fresh { All (λ pass. (pass.state ≡ 1) × IfSome pass.address.seat (λ seat. seat.pass.seen ≡ [])) out.new }
 {
     let _shared = lane;
@@ -76,6 +80,7 @@ pub fn seat_all(alloc: Global, shape: &Shape, out: &mut [BqPass]) -> Result<(), 
     requires one_each { length out.old ≡ shape.now.callers }
     ensures ok { OnOk result (All (λ pass. (pass.state ≡ 1) × IfSome pass.address.seat (λ seat. seat.pass.seen ≡ [])) out.new) }
     ensures one_lane { OnOk result (OfOneLane out.new) }
+    ensures one_caller_each { OnOk result (map callers_of out.new ≡ map (λ c. c ∷ []) (range_with_len 0 shape.now.callers)) }
     ensures err { OnErr result (out.new ≡ out.old) }
 {
     let most = shape.batch();

@@ -1,6 +1,7 @@
 use Rattle.std.proofs.Common.{◌≡◌, [], length}
 use Rattle.std.specs.Arc.{arc_value}
-use Rattle.bq_c.proofs.Lasts.{all_left, last_too, both_too, one_less}
+use Rattle.bq_lane.specs.Pass.{PassState}
+use Rattle.bq_c.proofs.Lasts.{all_left, last_too, both_too, one_less, map_last}
 use Rattle.bq_c.proofs.seating.last_pass.Goals as goal
 
 pub returns-clause-its_lane : goal.returns-clause-its_lane
@@ -26,3 +27,6 @@ returns-clause-it_saw_nothing c = last_too c.args.passes.now.items c.pop.new.sel
 
 pub returns-clause-nothing_seen : goal.returns-clause-nothing_seen
 returns-clause-nothing_seen c = all_left c.args.passes.now.items c.pop.new.self.items (λ p. p.seen ≡ []) c.pop.result c.requires.nothing_seen c.pop.ensures.items
+
+pub returns-clause-callers : goal.returns-clause-callers
+returns-clause-callers c = map_last (λ (p : PassState). p.callers) c.args.passes.now.items c.pop.new.self.items c.pop.result c.pop.ensures.items

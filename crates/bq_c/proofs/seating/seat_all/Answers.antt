@@ -15,3 +15,6 @@ returns-clause-one_lane c = record {
   lane = c.in_ok-lane.lane.value;
   each = c.put_all.ensures.of_this_lane;
 }
+
+pub returns-clause-one_caller_each : goal.returns-clause-one_caller_each
+returns-clause-one_caller_each c = c.put_all.ensures.callers ∙ (c.in_ok-seats.ensures.callers ∙ c.in_ok-made.ensures.one_pass_each)
