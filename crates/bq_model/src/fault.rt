@@ -21,12 +21,16 @@ pub enum TextCause {
     BlockTooLong,
     /// The input ends inside a block.
     OpenBlock,
+    /// The input ends inside a round. (No text has it yet.)
+    OpenRound,
     /// A command is started for a caller that is not idle.
     BusyCaller,
     /// There are more jobs, operations or steps than a text may have.
     TooMany,
     /// There are more bytes than a text may have.
     TooLong,
+    /// A job is at a greater level than a text may have. (No text has it yet.)
+    TooDeep,
 }
 
 impl TextCause {
@@ -44,9 +48,11 @@ impl TextCause {
             TextCause::BadLane => "bad lane",
             TextCause::BlockTooLong => "block too long",
             TextCause::OpenBlock => "open block",
+            TextCause::OpenRound => "open round",
             TextCause::BusyCaller => "busy caller",
             TextCause::TooMany => "too many",
             TextCause::TooLong => "too long",
+            TextCause::TooDeep => "too deep",
         }
     }
 }

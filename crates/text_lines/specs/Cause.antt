@@ -2,7 +2,7 @@
 use Rattle.std.specs.Prelude.{◌≡◌, ℕ, ◌≤◌, List, [], Result, Ok, Err, All, Contains, option_to_list, nat_le, if◌then◌else◌}
 use Rattle.std.specs.Result.{result_err}
 use Rattle.bq_model.specs.declared.fault.TextCause.{TextCause}
-use Rattle.bq_model.specs.declared.fault.TextCause.TheVariants.{NotText, NoHeader, BadWord, BadNumber, BadLane, BusyCaller, BlockTooLong, TooMany, OpenBlock, TooLong}
+use Rattle.bq_model.specs.declared.fault.TextCause.TheVariants.{NotText, NoHeader, BadWord, BadNumber, BadLane, BusyCaller, BlockTooLong, TooMany, OpenBlock, OpenRound, TooLong, TooDeep}
 
 -- the place of a cause in the order
 abbrev pub rank : TextCause → ℕ
@@ -15,7 +15,9 @@ rank BusyCaller = 5
 rank BlockTooLong = 6
 rank TooMany = 7
 rank OpenBlock = 8
-rank TooLong = 9
+rank OpenRound = 9
+rank TooLong = 10
+rank TooDeep = 11
 
 -- the one of two causes that comes first
 abbrev pub earlier : TextCause → TextCause → TextCause

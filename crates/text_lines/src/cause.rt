@@ -29,6 +29,8 @@ fn rank_of(cause: TextCause) -> u8
         TextCause::BlockTooLong => 6,
         TextCause::TooMany => 7,
         TextCause::OpenBlock => 8,
-        TextCause::TooLong => 9,
+        TextCause::OpenRound => 9,
+        TextCause::TooLong => 10,
+        TextCause::TooDeep => 11,
     }
 }

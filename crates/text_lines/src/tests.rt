@@ -158,7 +158,9 @@ fn causes_have_their_order(rt: HostRuntime) {
         TextCause::BlockTooLong,
         TextCause::TooMany,
         TextCause::OpenBlock,
+        TextCause::OpenRound,
         TextCause::TooLong,
+        TextCause::TooDeep,
     ];
     for pair in order.windows(2) {
         if let [one, other] = pair {
