@@ -4,3 +4,4 @@ pub mod Growing
 pub mod Values
 pub mod QueuedItems
 pub mod ComingLemmas
+pub mod NoShuts

@@ -2,7 +2,7 @@
 ghost use Rattle.std.specs.Prelude.{◌≡◌, ◌^◌, ◌<◌, ◌≤◌, ◌↔◌, [], ◌∷◌, ◌++◌, length, IsTrue, IfOk, IfSome, IsNone, IfNone, Some, slice_get};
 
 use crate::error::OutOfMemory;
-use crate::op::{Answer, Op};
+use crate::op::Answer;
 use std::alloc::Global;
 use std::marker::Model;
 
@@ -12,9 +12,6 @@ pub struct Bounded<T> {
     items: Vec<T>,
     capacity: u32,
 }
-
-/// Operations that a caller wants to take effect together, first to last.
-pub type Batch = Bounded<Op>;
 
 /// The answers to a batch, in the order of its operations.
 pub type Answers = Bounded<Answer>;
@@ -111,23 +108,6 @@ impl<T: Copy> Bounded<T> {
 mod tests {
     use super::*;
     use std::test::Fail;
-
-    #[test]
-    fn batches_give_back_what_was_pushed_last(rt: HostRuntime) -> Result<(), Fail> {
-        let mut batch = Batch::new(rt.alloc(), 2)?;
-        assert!(rt; batch.is_empty());
-        assert_eq!(rt; batch.pop(), None);
-        batch.push(Op::Enq(8));
-        batch.push(Op::Deq);
-        assert_eq!(rt; batch.len(), 2);
-        assert_eq!(rt; (batch.get(0), batch.get(1)), (Op::Enq(8), Op::Deq));
-        assert_eq!(rt; batch.pop(), Some(Op::Deq));
-        batch.push(Op::Enq(9));
-        assert_eq!(rt; batch.as_slice(), [Op::Enq(8), Op::Enq(9)].as_slice());
-        batch.clear();
-        assert_eq!(rt; batch.len(), 0);
-        Ok(())
-    }
 
     #[test]
     fn answers_come_back_in_order(rt: HostRuntime) -> Result<(), Fail> {

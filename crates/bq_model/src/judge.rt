@@ -1,10 +1,10 @@
 // The judge of answers. It builds no queue: what is queued are the next values that the operations enqueue, behind
-// those that were taken.
+// those that were taken. Once it is shut no further value enters.
 ghost use Rattle.std.specs.Prelude.{◌≡◌, ◌↔◌, ◌+◌, ◌<◌, ◌≤◌, ◌^◌, [], ◌∷◌, length, IsTrue, MatchOption};
 ghost use Rattle.bq_model.specs.Values.{enqueued};
 ghost use Rattle.bq_model.specs.History.{operations, answers_of};
 ghost use Rattle.bq_model.specs.Replay.{answers_from};
-ghost use Rattle.bq_model.specs.Queue.{queue_after};
+ghost use Rattle.bq_model.specs.Queue.{unshut, queue_after};
 
 use crate::group::Group;
 use crate::op::{Answer, Op};
@@ -68,39 +68,44 @@ impl<'h> Coming<'h> {
 struct Replay<'h> {
     values: Coming<'h>,
     queued: usize,
+    shut: bool,
     coming: Coming<'h>,
 }
 
 impl<'h> Model for Replay<'h> {
-    ghost use Rattle.std.specs.Prelude.{◌≡◌, ◌≤◌, take, drop, length};
+    ghost use Rattle.std.specs.Prelude.{◌≡◌, ◌≤◌, false, take, drop, length};
     ghost use Rattle.bq_model.specs.Coming.{Replaying};
+    ghost use Rattle.bq_model.specs.Queue.{queue_of};
     ghost use Rattle.bq_model.specs.Values.{enqueued};
 
     ghost Value = { Replaying };
 
-    ghost view = { λ r. record { queue = take r.queued (enqueued r.values); coming = r.coming } };
+    ghost view = { λ r. record { queue = queue_of (take r.queued (enqueued r.values)) r.shut; coming = r.coming } };
 
-    ghost invariant = { λ r. (r.queued ≤ length (enqueued r.values)) × (drop r.queued (enqueued r.values) ≡ enqueued r.coming) };
+    ghost invariant = { λ r. (r.queued ≤ length (enqueued r.values))
+        × (r.shut ≡ false → drop r.queued (enqueued r.values) ≡ enqueued r.coming) };
 }
 
 impl<'h> Replay<'h> {
     fn of(groups: &'h [Group]) -> Self
-        ensures { result ≡ record { queue = []; coming = operations groups.now } }
+        ensures { result ≡ record { queue = unshut []; coming = operations groups.now } }
     {
         Replay {
             values: Coming::of(groups),
             queued: 0,
+            shut: false,
             coming: Coming::of(groups),
         }
     }
 
     // The answer to the next operation, if there is one.
     fn next_answer(&mut self) -> Option<Answer>
-        requires { length self.old.queue + 1 < 2 ^ 64 }
+        requires { length self.old.queue.values + 1 < 2 ^ 64 }
         ensures answer { MatchOption result (self.old.coming ≡ []) (λ answer. answers_from self.old.queue self.old.coming ≡ answer ∷ answers_from self.new.queue self.new.coming) }
-        ensures queue { length self.new.queue ≤ length self.old.queue + 1 }
+        ensures queue { length self.new.queue.values ≤ length self.old.queue.values + 1 }
     {
         match self.coming.next()? {
+            Op::Enq(_) if self.shut => Some(Answer::Refused),
             Op::Enq(_) => {
                 self.queued += 1;
                 Some(Answer::Done)
@@ -111,12 +116,16 @@ impl<'h> Replay<'h> {
                 self.queued -= 1;
                 Some(Answer::Got(v))
             }
+            Op::Shut => {
+                self.shut = true;
+                Some(Answer::Done)
+            }
         }
     }
 }
 
-/// Whether the answers are, in order, those of a single thread's queue, empty at first, to the operations of the
-/// groups. It takes no memory, and time in proportion to the groups and their operations.
+/// Whether the answers are, in order, those of a single thread's queue, empty and not shut at first, to the operations
+/// of the groups. It takes no memory, and time in proportion to the groups and their operations.
 pub fn legal(groups: &[Group], answers: &[Answer]) -> bool
     ensures { IsTrue result ↔ (answers.now ≡ answers_of groups.now) }
 {

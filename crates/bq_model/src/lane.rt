@@ -7,18 +7,20 @@ ghost use Rattle.bq_model.specs.declared.group.Group.{Group};
 ghost use Rattle.bq_model.specs.declared.shape.Shape.{Shape};
 ghost use Rattle.bq_model.specs.History.{operations};
 ghost use Rattle.bq_model.specs.Own.{mine};
+ghost use Rattle.bq_model.specs.NoShut.{NoShut, NeverShut};
 ghost use Rattle.bq_model.specs.Proper.{IsProper};
 ghost use Rattle.bq_model.specs.Grows.{the_caller, Grew, SawMore, AtSomePoint};
 ghost use Rattle.bq_model.specs.Rooms.{PassesAllowance, PassesRoom};
 ghost use Rattle.bq_model.specs.Values.{enqueued};
 
-use crate::bounded::{Answers, Batch};
+use crate::batch::Batch;
+use crate::bounded::Answers;
 use crate::error::{OutOfMemory, Refusal};
 use crate::op::Answer;
 use crate::shape::Shape;
 use std::alloc::Global;
 
-/// A queue that several callers share.
+/// A queue that several callers share. Nothing shuts it.
 ///
 /// Each call returns, whatever the other callers do or leave undone: it waits for nobody.
 ///
@@ -74,6 +76,7 @@ pub trait Lane: Send + Sync + Drop {
         requires of_this_lane { (pass_identity pass.old ≡ identity self.now) × (pass_shape pass.old ≡ lane_shape self.now) }
         requires one_caller { length (callers pass.old) ≡ 1 }
         requires some_operation { batch.now.items ≢ [] }
+        requires no_shut { NoShut batch.now.items }
         requires not_too_long { length batch.now.items ≤ (lane_shape self.now).batch }
         requires room_for_answers { length batch.now.items ≤ out.old.capacity }
         ensures ok { OnOk result (Grew (the_caller (callers pass.old)) batch.now.items out.new.items (seen pass.old) (seen pass.new)) }
@@ -84,6 +87,7 @@ pub trait Lane: Send + Sync + Drop {
         ensures full { IsErrOf result Refusal.Full
             → (0 < length (enqueued batch.now.items)) × AtSomePoint (λ point. PassesRoom (lane_shape self.now) point (the_caller (callers pass.old)) batch.now.items) (seen pass.old) (seen pass.new) }
         ensures proper { IsProper (lane_shape self.now).callers (seen pass.new) }
+        ensures never_shut { NeverShut (seen pass.new) }
         ensures pass_stays { (pass_identity pass.new ≡ pass_identity pass.old) × (pass_shape pass.new ≡ pass_shape pass.old) × (callers pass.new ≡ callers pass.old) };
 
     /// Appends a value.
@@ -96,6 +100,7 @@ pub trait Lane: Send + Sync + Drop {
         ensures full { IsErrOf result Refusal.Full
             → (0 < length (enqueued (Op.Enq v ∷ []))) × AtSomePoint (λ point. PassesRoom (lane_shape self.now) point (the_caller (callers pass.old)) (Op.Enq v ∷ [])) (seen pass.old) (seen pass.new) }
         ensures proper { IsProper (lane_shape self.now).callers (seen pass.new) }
+        ensures never_shut { NeverShut (seen pass.new) }
         ensures pass_stays { (pass_identity pass.new ≡ pass_identity pass.old) × (pass_shape pass.new ≡ pass_shape pass.old) × (callers pass.new ≡ callers pass.old) };
 
     /// Takes the first value, if there is one. It is never refused with Full.
@@ -107,6 +112,7 @@ pub trait Lane: Send + Sync + Drop {
         ensures spent { IsErrOf result Refusal.Spent ↔ PassesAllowance (lane_shape self.now) (seen pass.old) (the_caller (callers pass.old)) (Op.Deq ∷ []) }
         ensures never_full { ¬ IsErrOf result Refusal.Full }
         ensures proper { IsProper (lane_shape self.now).callers (seen pass.new) }
+        ensures never_shut { NeverShut (seen pass.new) }
         ensures pass_stays { (pass_identity pass.new ≡ pass_identity pass.old) × (pass_shape pass.new ≡ pass_shape pass.old) × (callers pass.new ≡ callers pass.old) };
 
     /// One pass for the callers of two, which has seen what each of them had seen.
@@ -117,12 +123,14 @@ pub trait Lane: Send + Sync + Drop {
         ensures of_both { callers result ≡ callers a ++ callers b }
         ensures goes_on_the_first { (c : ℕ) → Contains (callers a) c → SawMore c (seen a) (seen result) }
         ensures goes_on_the_second { (c : ℕ) → Contains (callers b) c → SawMore c (seen b) (seen result) }
-        ensures proper { IsProper (lane_shape self.now).callers (seen result) };
+        ensures proper { IsProper (lane_shape self.now).callers (seen result) }
+        ensures never_shut { NeverShut (seen result) };
 
     /// Gives up a lane for its whole history, which the pass that holds every caller has seen.
     fn close(self, pass: Self::Pass) -> Self::Book
         requires of_this_lane { (pass_identity pass ≡ identity self) × (pass_shape pass ≡ lane_shape self) }
         requires every_caller { (c : ℕ) → c < (lane_shape self).callers → Contains (callers pass) c }
         ensures history { history result ≡ seen pass }
-        ensures proper { IsProper (lane_shape self).callers (history result) };
+        ensures proper { IsProper (lane_shape self).callers (history result) }
+        ensures never_shut { NeverShut (history result) };
 }

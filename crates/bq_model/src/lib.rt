@@ -2,13 +2,14 @@
 //!
 //! `op` and `group` have operations, answers and groups; `shape` the limits of a lane; `lane` what every queue
 //! promises to those who use it; `items` the lists that contracts see as lists, and `bounded` those with a capacity,
-//! as batches and their answers; `error` the refusals and `fault` the faults of a text; `source` and `sink` the two
+//! as the answers to a `batch`; `error` the refusals and `fault` the faults of a text; `source` and `sink` the two
 //! ends of the program, `memory_source` and `memory_sink` those over memory, `adapter` those over std's readers and
 //! writers; `judge` tells whether answers are those of one thread, and `laws` has laws of the definitions, which stand
 //! in `specs/`, one notion a file.
 #![tactic(auto)]
 
 mod adapter;
+mod batch;
 mod bounded;
 mod error;
 mod fault;
@@ -27,7 +28,8 @@ mod source;
 mod stream_tests;
 
 pub use adapter::{ReadSource, WriteSink};
-pub use bounded::{Answers, Batch, Bounded};
+pub use batch::Batch;
+pub use bounded::{Answers, Bounded};
 pub use error::{Failed, OutOfMemory, Refusal};
 pub use fault::{TextCause, TextFault, TextRefused};
 pub use group::Group;

@@ -4,7 +4,8 @@ use Rattle.std.proofs.Math.Nat.{le-max_left}
 use Rattle.std.proofs.lemmas.List.Sums.{sum_by-cons, sum_by_push}
 use Rattle.std.proofs.lemmas.Bool.{cases_lt}
 use Rattle.bq_model.specs.declared.op.Op.{Op}
-use Rattle.bq_model.specs.declared.op.Op.TheVariants.{Enq, Deq}
+use Rattle.bq_model.specs.declared.op.Op.TheVariants.{Enq, Deq, Shut}
+use Rattle.bq_model.specs.NoShut.{NoShut}
 use Rattle.excess_count.specs.Excess.{is_enqueue, is_dequeue, enqueue_count, dequeue_count, lead_of, prefixes, greatest, excess_of, IsExcess}
 
 -- the counts, step by step
@@ -81,6 +82,26 @@ excess_of-deq ops = IsExcess-unique (Deq ∷ ops) _ _ (IsExcess-excess_of (Deq �
         let h = at.1 in
         record { never_passed = never ops x p; reached = (suc at.0, omega (arith, enqueue_count-deq (take at.0 ops), dequeue_count-deq (take at.0 ops))) }
 
+-- a Shut in front counts for nothing
+pub enqueue_count-shut : (ops : List Op) → enqueue_count (Shut ∷ ops) ≡ enqueue_count ops
+enqueue_count-shut ops = let e = sum_by-cons (λ (x : Op). cond (is_enqueue x) 1 0) Shut ops in omega (arith, e)
+
+pub dequeue_count-shut : (ops : List Op) → dequeue_count (Shut ∷ ops) ≡ dequeue_count ops
+dequeue_count-shut ops = let e = sum_by-cons (λ (x : Op). cond (is_dequeue x) 1 0) Shut ops in omega (arith, e)
+
+pub excess_of-shut : (ops : List Op) → excess_of (Shut ∷ ops) ≡ excess_of ops
+excess_of-shut ops = IsExcess-unique (Shut ∷ ops) _ _ (IsExcess-excess_of (Shut ∷ ops)) (same ops (excess_of ops) (IsExcess-excess_of ops))
+  where
+    never : (ops : List Op) (x : ℕ) → IsExcess ops x → (k : ℕ) → dequeue_count (take k (Shut ∷ ops)) ≤ enqueue_count (take k (Shut ∷ ops)) + x
+    never ops x p zero = omega arith
+    never ops x p (suc k) = let h = p.never_passed k in omega (arith, enqueue_count-shut (take k ops), dequeue_count-shut (take k ops))
+
+    same : (ops : List Op) (x : ℕ) → IsExcess ops x → IsExcess (Shut ∷ ops) x
+    same ops x p =
+        let at = p.reached in
+        let h = at.1 in
+        record { never_passed = never ops x p; reached = (suc at.0, omega (arith, enqueue_count-shut (take at.0 ops), dequeue_count-shut (take at.0 ops))) }
+
 -- one enqueue more in front
 pub excess_of-enq : (v : ℕ) (ops : List Op) → excess_of (Enq v ∷ ops) ≡ excess_of ops - 1
 excess_of-enq v ops = IsExcess-unique (Enq v ∷ ops) _ _ (IsExcess-excess_of (Enq v ∷ ops)) (enq v ops (excess_of ops) (IsExcess-excess_of ops))
@@ -106,6 +127,7 @@ excess_of-nil = refl
 pub excess_of-le : (ops : List Op) → excess_of ops ≤ dequeue_count ops
 excess_of-le [] = let e = excess_of-nil in omega arith
 excess_of-le (Enq v ∷ ops) = let e = excess_of-enq v ops in let h = excess_of-le ops in omega (arith, dequeue_count-enq v ops)
+excess_of-le (Shut ∷ ops) = let e = excess_of-shut ops in let h = excess_of-le ops in omega (arith, dequeue_count-shut ops)
 excess_of-le (Deq ∷ ops) = let e = excess_of-deq ops in let h = excess_of-le ops in omega (arith, dequeue_count-deq ops)
 
 pub enqueue_count-push : (ops : List Op) (op : Op) → enqueue_count (ops ++ op ∷ []) ≡ enqueue_count ops + cond (is_enqueue op) 1 0
@@ -118,6 +140,7 @@ dequeue_count-push ops op = sum_by_push (λ (x : Op). cond (is_dequeue x) 1 0) o
 pub excess_of-push : (ops : List Op) (op : Op) → excess_of (ops ++ op ∷ []) ≡ max (excess_of ops) (lead_of (ops ++ op ∷ []))
 excess_of-push [] (Enq v) = let e = excess_of-enq v [] in let f = excess_of-nil in omega arith
 excess_of-push [] Deq = let e = excess_of-deq [] in let f = excess_of-nil in omega arith
+excess_of-push [] Shut = let e = excess_of-shut [] in let f = excess_of-nil in omega arith
 excess_of-push (Enq v ∷ ops) op =
     let e = excess_of-enq v (ops ++ op ∷ []) in
     let f = excess_of-enq v ops in
@@ -128,9 +151,22 @@ excess_of-push (Deq ∷ ops) op =
     let f = excess_of-deq ops in
     let h = excess_of-push ops op in
     omega (arith, enqueue_count-deq (ops ++ op ∷ []), dequeue_count-deq (ops ++ op ∷ []))
+excess_of-push (Shut ∷ ops) op =
+    let e = excess_of-shut (ops ++ op ∷ []) in
+    let f = excess_of-shut ops in
+    let h = excess_of-push ops op in
+    omega (arith, enqueue_count-shut (ops ++ op ∷ []), dequeue_count-shut (ops ++ op ∷ []))
 
--- each operation is an enqueue or a dequeue
-pub count-ops : (ops : List Op) → enqueue_count ops + dequeue_count ops ≡ length ops
-count-ops [] = refl
-count-ops (Enq v ∷ ops) = let h = count-ops ops in omega (arith, enqueue_count-enq v ops, dequeue_count-enq v ops)
-count-ops (Deq ∷ ops) = let h = count-ops ops in omega (arith, enqueue_count-deq ops, dequeue_count-deq ops)
+-- each operation of a batch is an enqueue or a dequeue
+pub count-ops : (ops : List Op) → NoShut ops → enqueue_count ops + dequeue_count ops ≡ length ops
+count-ops [] none = refl
+count-ops (Enq v ∷ ops) none = let h = count-ops ops none in omega (arith, enqueue_count-enq v ops, dequeue_count-enq v ops)
+count-ops (Deq ∷ ops) none = let h = count-ops ops none in omega (arith, enqueue_count-deq ops, dequeue_count-deq ops)
+count-ops (Shut ∷ ops) none = absurd none
+
+pub NoShut-take : (ops : List Op) (k : ℕ) → NoShut ops → NoShut (take k ops)
+NoShut-take ops zero none = tt
+NoShut-take [] (suc k) none = tt
+NoShut-take (Enq v ∷ ops) (suc k) none = NoShut-take ops k none
+NoShut-take (Deq ∷ ops) (suc k) none = NoShut-take ops k none
+NoShut-take (Shut ∷ ops) (suc k) none = absurd none

@@ -1,10 +1,12 @@
 // The counts of a batch, which say all that its successes depend on.
-ghost use Rattle.std.specs.Prelude.{◌≡◌, ℕ, ◌+◌, ◌^◌, ◌<◌, ◌≤◌, List, [], ◌∷◌, ◌++◌, length, drop};
+ghost use Rattle.std.specs.Prelude.{◌≡◌, ◌≢◌, ℕ, ◌+◌, ◌^◌, ◌<◌, ◌≤◌, true, List, [], ◌∷◌, ◌++◌, length, drop};
 ghost use Rattle.bq_model.specs.declared.op.Op.{Op};
+ghost use Rattle.bq_model.specs.NoShut.{NoShut};
+ghost use Rattle.bq_model.specs.Queue.{unshut, queue_of};
 ghost use Rattle.bq_model.specs.Replay.{answers_from, queue_from};
 ghost use Rattle.excess_count.specs.Excess.{IsExcess};
 ghost use Rattle.excess_count.specs.Got.{got_count, values_from};
-ghost use Rattle.excess_count.specs.Counts.{counts_of, successes_of, with_one_more};
+ghost use Rattle.excess_count.specs.Counts.{counts_of, successes_of, successes_shut_of, with_one_more};
 
 use bq_model::{Batch, Op};
 
@@ -34,6 +36,7 @@ impl Counts {
 
     /// The counts of a batch, in one pass.
     pub fn of(batch: &Batch) -> Counts
+        requires { NoShut batch.now.items }
         ensures counts_of_the_batch { result ≡ counts_of batch.now.items }
         ensures excess_is_the_greatest { IsExcess batch.now.items result.excess }
         ensures excess_within_dequeues { result.excess ≤ result.deqs }
@@ -44,7 +47,8 @@ impl Counts {
 
     /// Counts one operation more, behind those so far.
     pub fn add(&mut self, op: Op)
-        requires { self.old.enqs + self.old.deqs < u32.MAX }
+        requires room { self.old.enqs + self.old.deqs < u32.MAX }
+        requires no_shut { op ≢ Op.Shut }
         ensures the_three_numbers { self.new ≡ with_one_more self.old op }
         ensures counts_one_more { (ops : List Op) → self.old ≡ counts_of ops → self.new ≡ counts_of (ops ++ op ∷ []) }
         ensures excess_stays_within_dequeues { self.old.excess ≤ self.old.deqs → self.new.excess ≤ self.new.deqs }
@@ -53,6 +57,7 @@ impl Counts {
         match op {
             Op::Enq(_) => self.enqs += 1,
             Op::Deq => self.deqs += 1,
+            Op::Shut => unreachable!(),
         }
         self.excess = self.excess.max(self.deqs.saturating_sub(self.enqs));
     }
@@ -60,7 +65,8 @@ impl Counts {
 
 /// The counts of these operations, in one pass.
 pub fn count(ops: &[Op]) -> Counts
-    requires { length ops.now < 2 ^ 32 }
+    requires not_too_long { length ops.now < 2 ^ 32 }
+    requires no_shut { NoShut ops.now }
     ensures counts_of_the_batch { result ≡ counts_of ops.now }
     ensures excess_is_the_greatest { IsExcess ops.now result.excess }
     ensures excess_within_dequeues { result.excess ≤ result.deqs }
@@ -73,15 +79,26 @@ pub fn count(ops: &[Op]) -> Counts
     counts
 }
 
-/// How many dequeues of a batch with these counts get a value, on a queue of n values.
+/// How many dequeues of a batch with these counts get a value, on a queue of n values that isn't shut.
 pub fn successes(counts: &Counts, n: u64) -> u32
     requires { counts.now.excess ≤ counts.now.deqs }
     ensures by_counting { result ≡ successes_of counts.now n }
-    ensures as_many_as_the_replay_gets { (ops : List Op) (q : List ℕ) → counts.now ≡ counts_of ops
-        → length q ≡ n → got_count (answers_from q ops) ≡ result }
-    ensures the_last_queue_lacks_as_many { (ops : List Op) (q : List ℕ) → counts.now ≡ counts_of ops
-        → length q ≡ n → queue_from q ops ≡ drop result (values_from q ops) }
+    ensures as_many_as_the_replay_gets { (ops : List Op) (q : List ℕ) → NoShut ops → counts.now ≡ counts_of ops
+        → length q ≡ n → got_count (answers_from (unshut q) ops) ≡ result }
+    ensures the_last_queue_lacks_as_many { (ops : List Op) (q : List ℕ) → NoShut ops → counts.now ≡ counts_of ops
+        → length q ≡ n → queue_from (unshut q) ops ≡ unshut (drop result (values_from q ops)) }
 {
     let missing = u64::from(counts.excess).saturating_sub(n) as u32;
     counts.deqs - missing
+}
+
+/// How many dequeues of a batch with these counts get a value, on a queue of n values that was shut.
+pub fn successes_shut(counts: &Counts, n: u64) -> u32
+    ensures by_counting { result ≡ successes_shut_of counts.now n }
+    ensures as_many_as_the_replay_gets { (ops : List Op) (q : List ℕ) → counts.now ≡ counts_of ops
+        → length q ≡ n → got_count (answers_from (queue_of q true) ops) ≡ result }
+    ensures the_last_queue_lacks_as_many { (ops : List Op) (q : List ℕ) → counts.now ≡ counts_of ops
+        → length q ≡ n → queue_from (queue_of q true) ops ≡ queue_of (drop result q) true }
+{
+    u64::from(counts.deqs).min(n) as u32
 }

@@ -1,10 +1,14 @@
 // The answers of a whole batch from the values that it gets, in one pass.
-ghost use Rattle.std.specs.Prelude.{◌≡◌, ℕ, ◌≤◌, ◌<◌, ◌+◌, ◌^◌, List, ◌∷◌, length, drop, take, slice_index};
+ghost use Rattle.std.specs.Prelude.{◌≡◌, ℕ, ◌≤◌, ◌<◌, ◌+◌, ◌^◌, min, true, List, ◌∷◌, length, drop, take, slice_get, slice_index, Some};
 ghost use Rattle.bq_model.specs.declared.op.Op.{Op};
+ghost use Rattle.bq_model.specs.declared.op.Answer.{Answer};
+ghost use Rattle.bq_model.specs.NoShut.{NoShut};
+ghost use Rattle.bq_model.specs.Queue.{unshut, queue_of};
 ghost use Rattle.bq_model.specs.Replay.{answers_from};
 ghost use Rattle.excess_count.specs.Counts.{counts_of, successes_of};
+ghost use Rattle.excess_count.specs.Excess.{dequeue_count};
 ghost use Rattle.excess_count.specs.Got.{values_from};
-ghost use Rattle.excess_count.specs.Pairing.{paired};
+ghost use Rattle.excess_count.specs.Pairing.{paired, paired_shut};
 
 use bq_model::{Answer, Answers, Batch, Op};
 
@@ -15,15 +19,16 @@ struct Standing {
     got: usize,
 }
 
-/// Writes the answers of the whole batch on a queue of n values. `values` are those that its dequeues get: the
+/// Writes the answers of the whole batch on a queue of n values that isn't shut. `values` are those that its dequeues get: the
 /// first ones of the queue, and where that is too short, of those that the batch enqueues. What `out` held goes.
 pub fn answer_all(batch: &Batch, n: u64, values: &[u64], out: &mut Answers)
+    requires no_shut { NoShut batch.now.items }
     requires as_many_values { length values.now ≡ successes_of (counts_of batch.now.items) n }
     requires room { length batch.now.items ≤ out.old.capacity }
     ensures answers { out.new.items ≡ paired batch.now.items n values.now }
     ensures answers_of_the_replay { (q : List ℕ) → length q ≡ n
         → values.now ≡ take (length values.now) (values_from q batch.now.items)
-        → out.new.items ≡ answers_from q batch.now.items }
+        → out.new.items ≡ answers_from (unshut q) batch.now.items }
     ensures one_answer_each { length out.new.items ≡ length batch.now.items }
     ensures capacity_stays { out.new.capacity ≡ out.old.capacity }
 {
@@ -45,6 +50,36 @@ pub fn pair(ops: &[Op], queued: u64, values: &[u64], out: &mut Answers)
     };
     for op in ops {
         let answer = standing.answer(*op, values);
+        out.push(answer);
+    }
+}
+
+/// Writes the answers of operations on a queue that was shut, from which their dequeues get these values, in order, and
+/// then none. What `out` held goes.
+pub fn pair_shut(ops: &[Op], values: &[u64], out: &mut Answers)
+    requires { length ops.now ≤ out.old.capacity }
+    ensures answers { out.new.items ≡ paired_shut ops.now values.now }
+    ensures answers_of_the_replay { (q : List ℕ) → values.now ≡ take (min (dequeue_count ops.now) (length q)) q
+        → out.new.items ≡ answers_from (queue_of q true) ops.now }
+    ensures enqueues_are_refused { (k v : ℕ) → slice_get ops.now k ≡ Some (Op.Enq v)
+        → slice_get out.new.items k ≡ Some Answer.Refused }
+    ensures capacity_stays { out.new.capacity ≡ out.old.capacity }
+{
+    out.clear();
+    let mut left = values;
+    for op in ops {
+        let answer = match op {
+            Op::Enq(_) => Answer::Refused,
+            Op::Deq => {
+                if let [value, rest @ ..] = left {
+                    left = rest;
+                    Answer::Got(*value)
+                } else {
+                    Answer::Empty
+                }
+            }
+            Op::Shut => Answer::Done,
+        };
         out.push(answer);
     }
 }
@@ -74,6 +109,7 @@ impl Standing {
                     Answer::Got(value)
                 }
             }
+            Op::Shut => Answer::Done,
         }
     }
 }

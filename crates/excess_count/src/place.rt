@@ -1,8 +1,9 @@
 // Which value of the queue a dequeue of a batch gets.
 ghost use Rattle.std.specs.Prelude.{◌≡◌, ℕ, List, length, Some, slice_get};
-ghost use Rattle.excess_count.specs.Place.{Tells};
+ghost use Rattle.bq_model.specs.NoShut.{NoShut};
+ghost use Rattle.excess_count.specs.Place.{Tells, TellsShut};
 
-use crate::counts::{count, successes};
+use crate::counts::{count, successes, successes_shut};
 use bq_model::{Batch, Op};
 
 /// What a dequeue of a batch gets.
@@ -15,9 +16,10 @@ pub enum Which {
     Nothing,
 }
 
-/// What operation k of the batch gets, counted from 0, on a queue of n values.
+/// What operation k of the batch gets, counted from 0, on a queue of n values that isn't shut.
 pub fn answer_at(batch: &Batch, n: u64, k: u32) -> Which
-    requires { slice_get batch.now.items k ≡ Some Op.Deq }
+    requires no_shut { NoShut batch.now.items }
+    requires dequeue { slice_get batch.now.items k ≡ Some Op.Deq }
     ensures tells_what_the_replay_answers { (q : List ℕ) → length q ≡ n → Tells result q batch.now.items k }
 {
     let mut counts = count(&batch.as_slice()[..k as usize]);
@@ -26,6 +28,20 @@ pub fn answer_at(batch: &Batch, n: u64, k: u32) -> Which
     let got = successes(&counts, n);
     if before < got {
         Which::Stored(got)
+    } else {
+        Which::Nothing
+    }
+}
+
+/// What operation k of the batch gets, counted from 0, on a queue of n values that was shut.
+pub fn answer_at_shut(batch: &Batch, n: u64, k: u32) -> Which
+    requires no_shut { NoShut batch.now.items }
+    requires dequeue { slice_get batch.now.items k ≡ Some Op.Deq }
+    ensures tells_what_the_replay_answers { (q : List ℕ) → length q ≡ n → TellsShut result q batch.now.items k }
+{
+    let place = count(&batch.as_slice()[..k as usize]).deqs + 1;
+    if u64::from(place) <= n {
+        Which::Stored(place)
     } else {
         Which::Nothing
     }
