@@ -1,5 +1,5 @@
 -- Operations without a Shut, and a Shut that stands alone, in lists that grow and shrink at their end.
-use Rattle.std.proofs.Common.{◌≡◌, ◌<◌, Option, Some, None, IfSome, IfNone, List, [], ◌∷◌, ◌++◌, length, refl, sym, ap, subst, arith, length-append}
+use Rattle.std.proofs.Common.{◌≡◌, ◌<◌, ℕ, zero, suc, Option, Some, None, IfSome, IfNone, slice_index_or, List, [], ◌∷◌, ◌++◌, length, refl, sym, ap, subst, arith, length-append}
 use Rattle.bq_model.specs.declared.op.Op.{Op}
 use Rattle.bq_model.specs.declared.op.Op.TheVariants.{Enq, Deq, Shut}
 use Rattle.bq_model.specs.NoShut.{NoShut, ShutAlone}
@@ -15,6 +15,15 @@ NoShut-front [] more none = tt
 NoShut-front (Enq v ∷ ops) more none = NoShut-front ops more none
 NoShut-front (Deq ∷ ops) more none = NoShut-front ops more none
 NoShut-front (Shut ∷ ops) more none = absurd none
+
+-- what has none has none at any place
+pub NoShut-index : (ops : List Op) (k : ℕ) (other : Op) → NoShut ops → k < length ops → slice_index_or ops k other ≡ Shut → ⊥
+NoShut-index [] k other none inside is = absurd (omega (arith, inside))
+NoShut-index (Enq v ∷ ops) zero other none inside is = cc is
+NoShut-index (Deq ∷ ops) zero other none inside is = cc is
+NoShut-index (Enq v ∷ ops) (suc k) other none inside is = NoShut-index ops k other none (omega (arith, inside)) is
+NoShut-index (Deq ∷ ops) (suc k) other none inside is = NoShut-index ops k other none (omega (arith, inside)) is
+NoShut-index (Shut ∷ ops) k other none inside is = absurd none
 
 -- what has a Shut beside nothing, and one operation more that is no Shut, has none
 only-push : (ops : List Op) (op : Op) → NoShut ops → (op ≡ Shut → ops ≡ []) → 1 < length (ops ++ op ∷ []) → NoShut (ops ++ op ∷ [])

@@ -39,7 +39,7 @@ impl Batch {
 
     /// The operations, first to last.
     pub fn as_slice(&self) -> &[Op]
-        ensures operations { result.now ≡ self.now.items }
+        ensures items { result.now ≡ self.now.items }
         ensures within_capacity { length result.now ≤ self.now.capacity }
         ensures capacity_is_a_u32 { self.now.capacity < 2 ^ 32 }
     {
@@ -48,7 +48,7 @@ impl Batch {
 
     /// How many operations there are.
     pub fn len(&self) -> u32
-        ensures operations { result ≡ length self.now.items }
+        ensures items { result ≡ length self.now.items }
         ensures within_capacity { result ≤ self.now.capacity }
     {
         self.ops.len()
