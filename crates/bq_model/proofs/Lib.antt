@@ -5,3 +5,4 @@ pub mod Values
 pub mod QueuedItems
 pub mod ComingLemmas
 pub mod NoShuts
+pub mod OpenQueues

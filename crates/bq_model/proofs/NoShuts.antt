@@ -1,5 +1,5 @@
 -- Operations without a Shut, and a Shut that stands alone, in lists that grow and shrink at their end.
-use Rattle.std.proofs.Common.{◌≡◌, ◌<◌, ℕ, zero, suc, Option, Some, None, IfSome, IfNone, slice_index_or, List, [], ◌∷◌, ◌++◌, length, refl, sym, ap, subst, arith, length-append}
+use Rattle.std.proofs.Common.{◌≡◌, ◌≢◌, ◌<◌, ℕ, zero, suc, Option, Some, None, IfSome, IfNone, slice_index_or, List, [], ◌∷◌, ◌++◌, length, refl, sym, ap, subst, arith, length-append}
 use Rattle.bq_model.specs.declared.op.Op.{Op}
 use Rattle.bq_model.specs.declared.op.Op.TheVariants.{Enq, Deq, Shut}
 use Rattle.bq_model.specs.NoShut.{NoShut, ShutAlone}
@@ -9,6 +9,11 @@ NoShut-append [] more none rest = rest
 NoShut-append (Enq v ∷ ops) more none rest = NoShut-append ops more none rest
 NoShut-append (Deq ∷ ops) more none rest = NoShut-append ops more none rest
 NoShut-append (Shut ∷ ops) more none rest = absurd none
+
+pub NoShut-push : (ops : List Op) (op : Op) → NoShut ops → op ≢ Shut → NoShut (ops ++ op ∷ [])
+NoShut-push ops (Enq v) none other = NoShut-append ops (Enq v ∷ []) none tt
+NoShut-push ops Deq none other = NoShut-append ops (Deq ∷ []) none tt
+NoShut-push ops Shut none other = absurd (other refl)
 
 pub NoShut-front : (ops more : List Op) → NoShut (ops ++ more) → NoShut ops
 NoShut-front [] more none = tt

@@ -1,11 +1,11 @@
 -- What a session keeps stays what the operations got, whatever is done to its futures.
-use Rattle.std.proofs.Common.{◌≡◌, ℕ, ◌+◌, ◌-◌, ◌<◌, ◌≤◌, ◌==◌, Bool, true, false, cond, List, length, map, get_or, set, Option, Some, None, is_some, Result, Ok, Err, IfOk, refl, sym, ap, subst, ◌∙◌, arith, ◌⊎◌, inl, inr}
+use Rattle.std.proofs.Common.{◌≡◌, ◌≢◌, All, ℕ, ◌+◌, ◌-◌, ◌<◌, ◌≤◌, ◌==◌, Bool, true, false, cond, List, length, map, get_or, set, Option, Some, None, is_some, Result, Ok, Err, IfOk, refl, sym, ap, subst, ◌∙◌, arith, ◌⊎◌, inl, inr}
 use Rattle.std.proofs.lemmas.Bool.{cases_eq}
 use Rattle.std.proofs.lemmas.List.{get_or-set_same, get_or-set_other}
 use Rattle.std.proofs.Math.ListN.{get_or-map}
 use Rattle.bq_model.specs.declared.op.Op.{Op}
 use Rattle.bq_model.specs.declared.op.Answer.{Answer}
-use Rattle.bq_model.specs.declared.op.Answer.TheVariants.{Done, Got, Empty}
+use Rattle.bq_model.specs.declared.op.Answer.TheVariants.{Done, Got, Empty, Refused}
 use Rattle.bq_model.specs.declared.group.Group.{Group}
 use Rattle.bq_model.specs.History.{operations}
 use Rattle.bq_model.specs.Own.{GotAnswer}
@@ -19,6 +19,7 @@ use Rattle.bq_session.specs.declared.claim.Outcome.TheVariants as outcome
 use Rattle.bq_session.specs.Futures.{LiveFutures, under, Stands, IsIssued, place_of, restand, keeping, settled, withdrawing, last_withdrawn, spent, HavePlaces}
 use Rattle.bq_session.specs.Outcome.{KeepsAnswers, WasGiven, ClaimsOwn, outcome_of, made_by}
 use Rattle.bq_session.specs.Session.{IsEvaluated}
+use Rattle.bq_model.proofs.OpenQueues.{accepted-at}
 use Rattle.bq_session.proofs.Pending.{within_live}
 use Rattle.bq_session.proofs.Names.{GotAnswer-saw_more, GotAnswer-grew, GotAnswer-made, serial_below, made_by-grew}
 
@@ -33,6 +34,7 @@ KeptBefore old new = (key number serial : ℕ) (answer : Answer) → under new k
 pub KeepsAnswers-before : (seen : List Group) (old new : LiveFutures) → new.caller ≡ old.caller → KeptBefore old.live new.live → KeepsAnswers seen old → KeepsAnswers seen new
 KeepsAnswers-before seen old new caller before k = record {
   got = λ key number serial answer e. subst (λ (c : ℕ). GotAnswer seen c serial answer) (sym caller) (k.got key number serial answer (before key number serial answer e));
+  accepted = λ key number serial answer e. k.accepted key number serial answer (before key number serial answer e);
   apart = λ key other m n serial a b e f. k.apart key other m n serial a b (before key m serial a e) (before other n serial b f);
 }
 
@@ -106,6 +108,7 @@ WasGiven-saw_more serial old new f s was = record {
 pub KeepsAnswers-saw_more : (old new : List Group) (f : LiveFutures) → SawMore f.caller old new → KeepsAnswers old f → KeepsAnswers new f
 KeepsAnswers-saw_more old new f s k = record {
   got = λ key number serial answer e. GotAnswer-saw_more old new f.caller serial answer s (k.got key number serial answer e);
+  accepted = k.accepted;
   apart = k.apart;
 }
 
@@ -131,10 +134,11 @@ kept_from answers first (Some future) number serial answer e =
       | inr pending ↦ inr (pending.0, ap (λ (x : Standing). place_of (Some (standing_so future.number x))) pending.1, pending.2, pending.3)
     ]
 
-pub KeepsAnswers-settled : (ops : List Op) (answers : List Answer) (old new : List Group) (f : LiveFutures) → Grew f.caller ops answers old new → HavePlaces f.waiting f.live → f.waiting ≤ length ops
-    → KeepsAnswers old f → KeepsAnswers new (settled answers (made_by old f.caller) f)
-KeepsAnswers-settled ops answers old new f g places enough k = record {
+pub KeepsAnswers-settled : (ops : List Op) (answers : List Answer) (old new : List Group) (f : LiveFutures) → Grew f.caller ops answers old new → All (λ answer. answer ≢ Refused) answers → HavePlaces f.waiting f.live
+    → f.waiting ≤ length ops → KeepsAnswers old f → KeepsAnswers new (settled answers (made_by old f.caller) f)
+KeepsAnswers-settled ops answers old new f g all places enough k = record {
   got = λ key number serial answer e. got (under f.live key) key refl number serial answer (from key number serial answer e);
+  accepted = λ key number serial answer e. accepted key number serial answer (from key number serial answer e);
   apart = λ key other m n serial a b e h. apart key other m n serial a b (from key m serial a e) (from other n serial b h);
 } where
   from : (key number serial : ℕ) (answer : Answer) → under (map (restand (keeping answers (made_by old f.caller))) f.live) key ≡ Some (standing_so number (Kept answer serial))
@@ -148,6 +152,10 @@ KeepsAnswers-settled ops answers old new f g places enough k = record {
       let within : pending.0 < length ops = (let below = places.below key pending.0 pending.1 in omega arith) in
       subst (λ (n : ℕ). GotAnswer new f.caller n answer) pending.3
       (subst (λ (a : Answer). GotAnswer new f.caller (made_by old f.caller + pending.0) a) pending.2 (GotAnswer-made f.caller ops answers old new pending.0 g within))
+
+  accepted : (key number serial : ℕ) (answer : Answer) → KeptFrom answers (made_by old f.caller) (under f.live key) number serial answer → answer ≢ Refused
+  accepted key number serial answer (inl kept) = k.accepted key number serial answer kept
+  accepted key number serial answer (inr pending) = subst (λ (a : Answer). a ≢ Refused) pending.2 (accepted-at answers pending.0 all)
 
   apart : (key other m n serial : ℕ) (a b : Answer) → KeptFrom answers (made_by old f.caller) (under f.live key) m serial a → KeptFrom answers (made_by old f.caller) (under f.live other) n serial b → key ≡ other
   apart key other m n serial a b (inl x) (inl y) = k.apart key other m n serial a b x y
@@ -177,6 +185,7 @@ pub ClaimsOwn-spent : (seen : List Group) (f : LiveFutures) (t : Ticket) (answer
     → ClaimsOwn (outcome_of f.lane f.caller serial answer) seen f seen (spent t.key f)
 ClaimsOwn-spent seen f t Done serial s k = tt
 ClaimsOwn-spent seen f t Empty serial s k = tt
+ClaimsOwn-spent seen f t Refused serial s k = tt
 ClaimsOwn-spent seen f t (Got v) serial s k = record {
   lane = refl;
   caller = refl;
@@ -201,6 +210,7 @@ ClaimsOwn-made ops answers old new f place g places behind within k = by_answer 
   by_answer : (answer : Answer) → get_or answers place Done ≡ answer → ClaimsOwn (outcome_of f.lane f.caller (made_by old f.caller + place) answer) old f new (settled answers (made_by old f.caller) f)
   by_answer Done is = tt
   by_answer Empty is = tt
+  by_answer Refused is = tt
   by_answer (Got v) is = record {
     lane = refl;
     caller = refl;

@@ -1,27 +1,30 @@
 -- Where the operations of a caller stand, and what they got.
-use Rattle.std.proofs.Common.{◌≡◌, ℕ, zero, suc, ◌+◌, ◌*◌, ◌<◌, ◌≤◌, ◌==◌, Bool, false, cond, Some, List, [], ◌∷◌, ◌++◌, length, take, get_or, replicate, refl, sym, ap, subst, ◌∙◌, arith, ne_eqb, eq-eqb, length-append, append_assoc, count_by, inl, inr}
+use Rattle.std.proofs.Common.{◌≡◌, ◌≢◌, All, ℕ, zero, suc, ◌+◌, ◌*◌, ◌<◌, ◌≤◌, ◌==◌, Bool, false, cond, Some, List, [], ◌∷◌, ◌++◌, length, take, get_or, replicate, refl, sym, ap, subst, ◌∙◌, arith, ne_eqb, eq-eqb, length-append, append_assoc, count_by, inl, inr}
 use Rattle.std.specs.List.{slice_get}
 use Rattle.std.proofs.lemmas.Bool.{cases_eq}
 use Rattle.std.proofs.lemmas.Grind.{flat_map-append}
 use Rattle.std.proofs.lemmas.List.{length-replicate, take-append-le}
 use Rattle.std.proofs.Math.Seq.{take-append-add}
 use Rattle.std.proofs.lemmas.List.Sums.{sum_by-cons, sum_by-append}
+use Rattle.std.proofs.lemmas.List.Elements.{All-head}
 use Rattle.std.proofs.lemmas.List.Folds.{sum_by-replicate}
 use Rattle.std.proofs.lemmas.Option.{slice_get-get_or, slice_get_within}
 use Rattle.bq_model.specs.declared.op.Op.{Op}
 use Rattle.bq_model.specs.declared.op.Answer.{Answer}
-use Rattle.bq_model.specs.declared.op.Answer.TheVariants.{Done}
+use Rattle.bq_model.specs.declared.op.Answer.TheVariants.{Done, Refused}
 use Rattle.bq_model.specs.declared.group.Group.{Group}
-use Rattle.bq_model.specs.Queue.{queue_after}
+use Rattle.bq_model.specs.Queue.{Queue, unshut, queue_after}
 use Rattle.bq_model.specs.Replay.{answers_from, queue_from}
 use Rattle.bq_model.specs.History.{operations, answers_of, last_queue}
 use Rattle.bq_model.specs.Own.{mine, next_group, callers_of, GotAnswer}
 use Rattle.bq_model.specs.Grows.{Grew, SawMore}
+use Rattle.bq_model.specs.NoShut.{NoShut, NeverShut}
 use Rattle.bq_model.proofs.Histories.{answers_from-append, operations-push}
 use Rattle.bq_model.proofs.Growing.{operations-append, mine-append, mine-own, mine-other, others_around}
+use Rattle.bq_model.proofs.OpenQueues.{stays_open, NeverShut-front, NeverShut-back, none_refused}
 use Rattle.bq_session.specs.Outcome.{made_by}
 
-pub length-answers_from : (q : List ℕ) (ops : List Op) → length (answers_from q ops) ≡ length ops
+pub length-answers_from : (q : Queue) (ops : List Op) → length (answers_from q ops) ≡ length ops
 length-answers_from q [] = refl
 length-answers_from q (op ∷ ops) = ap (λ k. suc k) (length-answers_from (queue_after q op) ops)
 
@@ -39,10 +42,10 @@ callers_of-append : (h more : List Group) → callers_of (h ++ more) ≡ callers
 callers_of-append h more = flat_map-append (λ (g : Group). replicate (length g.ops) g.caller) h more
 
 answers_of-append : (h more : List Group) → answers_of (h ++ more) ≡ answers_of h ++ answers_from (last_queue h) (operations more)
-answers_of-append h more = ap (answers_from []) (operations-append h more) ∙ answers_from-append [] (operations h) (operations more)
+answers_of-append h more = ap (answers_from (unshut [])) (operations-append h more) ∙ answers_from-append (unshut []) (operations h) (operations more)
 
 as_many : (h : List Group) → length (answers_of h) ≡ length (callers_of h)
-as_many h = length-answers_from [] (operations h) ∙ sym (length-callers_of h)
+as_many h = length-answers_from (unshut []) (operations h) ∙ sym (length-callers_of h)
 
 slice_get-front : {X : Type 0} (xs ys : List X) (k : ℕ) (x : X) → slice_get xs k ≡ Some x → slice_get (xs ++ ys) k ≡ Some x
 slice_get-front [] ys k x e = cc e
@@ -184,3 +187,11 @@ GotAnswer-made c ops answers old new k g within =
 pub made_by-grew : (c : ℕ) (ops : List Op) (answers : List Answer) (old new : List Group) → Grew c ops answers old new → made_by new c ≡ made_by old c + length ops
 made_by-grew c ops answers old new g =
     ap (λ (gs : List Group). length (operations gs)) g.own ∙ ap length (operations-push (mine old c) (next_group old c ops)) ∙ length-append (operations (mine old c)) ops
+
+-- where nothing was shut, no answer to a group is that it was refused
+pub accepted-grew : (c : ℕ) (ops : List Op) (answers : List Answer) (old new : List Group) → Grew c ops answers old new → NeverShut new → All (λ answer. answer ≢ Refused) answers
+accepted-grew c ops answers old new g never =
+    let front : List Group = old ++ g.between in
+    let whole = subst NeverShut g.grown never in
+    let none : NoShut ops = All-head (λ (x : Group). NoShut x.ops) (next_group old c ops) g.after (NeverShut-back front (next_group old c ops ∷ g.after) whole) in
+    subst (All (λ (answer : Answer). answer ≢ Refused)) (sym g.answered) (none_refused (last_queue front) ops (stays_open front (NeverShut-front front (next_group old c ops ∷ g.after) whole)) none)

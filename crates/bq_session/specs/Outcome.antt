@@ -1,7 +1,7 @@
 -- What a caller learns of an operation that was made.
-use Rattle.std.specs.Prelude.{◌≡◌, ℕ, ◌<◌, List, length, Some}
+use Rattle.std.specs.Prelude.{◌≡◌, ◌≢◌, ℕ, ◌<◌, List, length, Some}
 use Rattle.bq_model.specs.declared.op.Answer.{Answer}
-use Rattle.bq_model.specs.declared.op.Answer.TheVariants.{Done, Got, Empty}
+use Rattle.bq_model.specs.declared.op.Answer.TheVariants.{Done, Got, Empty, Refused}
 use Rattle.bq_model.specs.declared.group.Group.{Group}
 use Rattle.bq_model.specs.History.{operations}
 use Rattle.bq_model.specs.Own.{mine, GotAnswer}
@@ -11,15 +11,19 @@ use Rattle.bq_session.specs.declared.claim.Outcome.TheVariants as outcome
 use Rattle.bq_session.specs.declared.future.Standing.TheVariants.{Kept}
 use Rattle.bq_session.specs.Futures.{LiveFutures, under}
 
--- the outcome of operation `serial` of a caller; a value that was got comes with a claim that names the operation
+-- the outcome of operation `serial` of a caller; a value that was got comes with a claim that names the operation.
+-- Nothing is refused where nothing was shut, so the last line is never asked for.
 abbrev pub outcome_of : ℕ → ℕ → ℕ → Answer → Outcome
 outcome_of lane caller serial Done = outcome.Done
 outcome_of lane caller serial (Got v) = outcome.Got (record { lane = lane; caller = caller; serial = serial; value = v })
 outcome_of lane caller serial Empty = outcome.Empty
+outcome_of lane caller serial Refused = outcome.Done
 
--- What is kept is what operations of the caller got in this history, each of an operation of its own.
+-- What is kept is what operations of the caller got in this history, each of an operation of its own, and none was
+-- refused.
 pub record KeepsAnswers (seen : List Group) (f : LiveFutures) : Type 0 where
   pub got : (key number serial : ℕ) (answer : Answer) → under f.live key ≡ Some (record { number = number; standing = Kept answer serial }) → GotAnswer seen f.caller serial answer
+  pub accepted : (key number serial : ℕ) (answer : Answer) → under f.live key ≡ Some (record { number = number; standing = Kept answer serial }) → answer ≢ Refused
   pub apart : (key other m n serial : ℕ) (a b : Answer) → under f.live key ≡ Some (record { number = m; standing = Kept a serial })
       → under f.live other ≡ Some (record { number = n; standing = Kept b serial }) → key ≡ other
 

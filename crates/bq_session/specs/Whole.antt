@@ -4,6 +4,7 @@ use Rattle.bq_model.specs.declared.op.Op.{Op}
 use Rattle.bq_model.specs.declared.op.Answer.{Answer}
 use Rattle.bq_model.specs.declared.group.Group.{Group}
 use Rattle.bq_model.specs.Bounded.{BoundedList}
+use Rattle.bq_model.specs.NoShut.{NoShut}
 use Rattle.bq_model.specs.Grows.{the_caller}
 use Rattle.bq_session.specs.Futures.{LiveFutures}
 use Rattle.bq_session.specs.Outcome.{KeepsAnswers}
@@ -15,6 +16,7 @@ pub record IsWhole (callers : List ℕ) (longest : ℕ) (seen : List Group) (pen
   pub not_too_long : futures.batch ≤ longest
   pub room : pending.capacity ≡ futures.batch
   pub room_for_answers : answers.capacity ≡ futures.batch
+  pub no_shut : NoShut pending.items
   pub as_many : futures.waiting ≡ length pending.items
   pub fits : length pending.items ≤ futures.batch
   pub keeps : KeepsAnswers seen futures

@@ -1,5 +1,5 @@
 // What a dequeue got. A claim names the dequeue, and is made once for it.
-ghost use Rattle.std.specs.Prelude.{◌≡◌};
+ghost use Rattle.std.specs.Prelude.{◌≡◌, ◌≢◌};
 
 use bq_model::Answer;
 
@@ -56,8 +56,9 @@ pub enum Outcome {
 impl Outcome {
     ghost use Rattle.bq_session.specs.Outcome.{outcome_of};
 
-    /// What came of operation `serial` of a caller, by its answer.
+    /// What came of operation `serial` of a caller, by its answer. None is refused, since no lane is shut.
     pub(crate) fn new(lane: u32, caller: u32, serial: u64, answer: Answer) -> Outcome
+        requires { answer ≢ Answer.Refused }
         ensures { result ≡ outcome_of lane caller serial answer }
     {
         match answer {
@@ -69,6 +70,7 @@ impl Outcome {
                 value,
             }),
             Answer::Empty => Outcome::Empty,
+            Answer::Refused => unreachable!(),
         }
     }
 }

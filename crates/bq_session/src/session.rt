@@ -1,7 +1,8 @@
 // A session. As many futures wait as operations are pending, and what is kept is what the pass has seen.
-ghost use Rattle.std.specs.Prelude.{◌≡◌, ◌≢◌, ◌↔◌, ◌+◌, ◌^◌, ◌<◌, ◌≤◌, ℕ, List, [], ◌∷◌, ◌++◌, length, IfOk, IsErrOf, OnOk, OnErr, IsErr, IfErr, IfSome, IsNone, OnSome, IfNone, IsTrue, Ok};
+ghost use Rattle.std.specs.Prelude.{◌≡◌, ◌≢◌, ◌↔◌, ◌+◌, ◌^◌, ◌<◌, ◌≤◌, ℕ, List, [], ◌∷◌, ◌++◌, length, IfOk, IsErrOf, OnOk, OnErr, IsErr, IfErr, IfSome, IsNone, OnSome, IfNone, IsTrue, Ok, All};
 ghost use Rattle.bq_model.specs.declared.op.Op.{Op};
 ghost use Rattle.bq_model.specs.declared.op.Answer.{Answer};
+ghost use Rattle.bq_model.specs.NoShut.{NoShut};
 ghost use Rattle.bq_model.specs.Own.{mine};
 ghost use Rattle.bq_model.specs.Grows.{the_caller, Grew, SawMore, AtSomePoint};
 ghost use Rattle.bq_model.specs.Rooms.{PassesAllowance, PassesRoom};
@@ -116,6 +117,7 @@ impl<L: Lane> Session<L> {
     }
 
     fn defer(&mut self, op: Op) -> Result<Ticket, Refused>
+        requires { op ≢ Op.Shut }
         ensures appended { OnOk result (self.new.pending ≡ self.old.pending ++ op ∷ []) }
         ensures issued { IfOk result (λ ticket. IsIssued ticket self.old.futures self.new.futures) }
         ensures batch_full { IsErrOf result Refused.BatchFull ↔ (length self.old.pending ≡ self.old.futures.batch) }
@@ -259,6 +261,7 @@ impl<L: Lane> Session<L> {
 
     // Makes all that is pending and then this operation, as one group.
     fn make_with(&mut self, lane: &L, op: Op) -> Result<Outcome, PlainFault>
+        requires no_shut { op ≢ Op.Shut }
         requires of_this_lane { (L.pass_identity self.old.pass ≡ L.identity lane.now) × (L.pass_shape self.old.pass ≡ L.lane_shape lane.now) }
         ensures ok { IfOk result (λ outcome. IsMadeWith outcome op self.old.pending self.old.futures self.new.futures (L.seen self.old.pass) (L.seen self.new.pass)) }
         ensures nothing_pending { OnOk result (self.new.pending ≡ []) }
@@ -347,10 +350,12 @@ fn make_group<L: Lane>(
     requires one_caller { length (L.callers pass.old) ≡ 1 }
     requires of_this_caller { futures.old.caller ≡ the_caller (L.callers pass.old) }
     requires some_operation { ops.now.items ≢ [] }
+    requires no_shut { NoShut ops.now.items }
     requires not_too_long { length ops.now.items ≤ (L.lane_shape lane.now).batch }
     requires room_for_answers { length ops.now.items ≤ answers.old.capacity }
     requires of_the_futures { futures.old.waiting ≤ length ops.now.items }
     ensures ok { OnOk result (Grew futures.old.caller ops.now.items answers.new.items (L.seen pass.old) (L.seen pass.new)) }
+    ensures none_refused { OnOk result (All (λ answer. answer ≢ Answer.Refused) answers.new.items) }
     ensures first { IfOk result (λ first. first ≡ made_by (L.seen pass.old) futures.old.caller) }
     ensures settled { IfOk result (λ first. futures.new ≡ settled answers.new.items first futures.old) }
     ensures serials_fit { IfOk result (λ first. first + length ops.now.items < 2 ^ 64) }

@@ -9,6 +9,7 @@ use Rattle.std.proofs.lemmas.List.Elements.{recursion_from_All}
 use Rattle.std.proofs.lemmas.List.Sorted.{length_permutation}
 use Rattle.bq_model.specs.declared.group.Group.{Group}
 use Rattle.bq_model.specs.History.{operations}
+use Rattle.bq_model.specs.NoShut.{NeverShut}
 use Rattle.bq_model.specs.Own.{mine}
 use Rattle.job_text.specs.declared.file.Unit.{Unit as JobUnit}
 use Rattle.job_text.specs.JobFile.{job_count}
@@ -76,11 +77,11 @@ put_at_most file hands lane h pos known idle put =
     omega (arith, groups, units, most, lane_jobs, all, whole)
 
 -- So a hand makes no more operations than twice the file's jobs and its dequeues that found nothing.
-pub operations_at_most : (file : List JobUnit) (hands lane c : ℕ) (h : List Group) → 0 < hands → All (λ g. g.caller < hands + 1) h → mine h hands ≡ [] → ((d : ℕ) → d < hands → PutSome file hands lane h d) → c < hands
+pub operations_at_most : (file : List JobUnit) (hands lane c : ℕ) (h : List Group) → 0 < hands → All (λ g. g.caller < hands + 1) h → NeverShut h → mine h hands ≡ [] → ((d : ℕ) → d < hands → PutSome file hands lane h d) → c < hands
     → length (operations (mine h c)) ≤ job_count file + job_count file + empties (answers_to h c)
-operations_at_most file hands lane c h pos known idle put l =
+operations_at_most file hands lane c h pos known never idle put l =
     let most = put_at_most file hands lane h pos known idle put in
-    let made = made_at_most h c in
+    let made = made_at_most h c never in
     let some = put c l in
     let same = ap length some.1 in
     let less = first_units some.0 file hands lane c in

@@ -5,15 +5,15 @@ use Rattle.std.proofs.lemmas.Bool.{cases_eq}
 use Rattle.std.proofs.lemmas.List.Sums.{sum_by-cons}
 use Rattle.bq_model.specs.declared.op.Op.{Op}
 use Rattle.bq_model.specs.declared.op.Answer.{Answer}
-use Rattle.bq_model.specs.declared.op.Answer.TheVariants.{Done, Got, Empty}
+use Rattle.bq_model.specs.declared.op.Answer.TheVariants.{Done, Got, Empty, Refused}
 use Rattle.bq_model.specs.declared.group.Group.{Group}
-use Rattle.bq_model.specs.Queue.{queue_after}
+use Rattle.bq_model.specs.Queue.{Queue, unshut, queue_after}
 use Rattle.bq_model.specs.Replay.{answers_from}
 use Rattle.bq_model.specs.History.{operations, answers_of}
 use Rattle.bq_model.specs.Own.{callers_of, GotAnswer}
 use Rattle.bulk_dispatcher.specs.Hands.{given, Catch, caught_from, caught}
 
-pub length-answers_from : (q : List ℕ) (ops : List Op) → length (answers_from q ops) ≡ length ops
+pub length-answers_from : (q : Queue) (ops : List Op) → length (answers_from q ops) ≡ length ops
 length-answers_from q [] = refl
 length-answers_from q (op ∷ ops) = ap (λ k. suc k) (length-answers_from (queue_after q op) ops)
 
@@ -39,7 +39,7 @@ seconds-zip (x ∷ xs) [] e = absurd (omega (arith, e))
 seconds-zip (x ∷ xs) (y ∷ ys) e = ap (λ zs. y ∷ zs) (seconds-zip xs ys (omega (arith, e)))
 
 pub as_many : (h : List Group) → length (callers_of h) ≡ length (answers_of h)
-as_many h = length-callers_of h ∙ sym (length-answers_from [] (operations h))
+as_many h = length-callers_of h ∙ sym (length-answers_from (unshut []) (operations h))
 
 -- Among answers beside their callers, the dequeue of caller c with this serial, where n of c's stand before them, got this value.
 record StandsAt (ps : List (ℕ × Answer)) (c n : ℕ) (x : Catch) : Type 0 where
@@ -80,6 +80,7 @@ caught_own ps c n d (Got v) e h = (
   map_all _ _ (behind_own ps c n d (Got v) (eq-eqb d c e)) _ h,
 )
 caught_own ps c n d Empty e h = map_all _ _ (behind_own ps c n d Empty (eq-eqb d c e)) _ h
+caught_own ps c n d Refused e h = map_all _ _ (behind_own ps c n d Refused (eq-eqb d c e)) _ h
 
 caught_stand : (ps : List (ℕ × Answer)) (c n : ℕ) → AllByRecursion (StandsAt ps c n) (caught_from n (own_answers ps c))
 caught_stand [] c n = tt

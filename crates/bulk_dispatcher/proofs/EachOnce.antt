@@ -7,7 +7,7 @@ use Rattle.std.proofs.lemmas.Nat.{mod_below}
 use Rattle.std.proofs.lemmas.List.Elements.{All-from_recursion, recursion_from_All, All-filter, All-contains_itself, All-contains, All-weaker}
 use Rattle.std.proofs.lemmas.List.Sorted.{IsPermutation-sym, IsPermutation-trans}
 use Rattle.bq_model.specs.declared.op.Op.{Op}
-use Rattle.bq_model.specs.declared.op.Op.TheVariants.{Enq, Deq}
+use Rattle.bq_model.specs.declared.op.Op.TheVariants.{Enq, Deq, Shut}
 use Rattle.bq_model.specs.declared.group.Group.{Group}
 use Rattle.bq_model.specs.History.{operations}
 use Rattle.bq_model.specs.Own.{mine}
@@ -21,6 +21,7 @@ pub enqueued-append : (xs ys : List Op) → enqueued (xs ++ ys) ≡ enqueued xs 
 enqueued-append [] ys = refl
 enqueued-append (Enq v ∷ xs) ys = ap (λ vs. v ∷ vs) (enqueued-append xs ys)
 enqueued-append (Deq ∷ xs) ys = enqueued-append xs ys
+enqueued-append (Shut ∷ xs) ys = enqueued-append xs ys
 
 -- group by group
 pub values_by_group : (h : List Group) → enqueued (operations h) ≡ flat_map (λ g. enqueued g.ops) h

@@ -4,10 +4,13 @@ use Rattle.std.specs.List.{AllByRecursion}
 use Rattle.std.proofs.lemmas.List.Elements.{recursion_from_All}
 use Rattle.std.proofs.lemmas.Bool.{cases_lt}
 use Rattle.bq_model.specs.declared.group.Group.{Group}
+use Rattle.bq_model.specs.NoShut.{NeverShut}
+use Rattle.bq_model.specs.Queue.{Queue, queue_of, unshut}
 use Rattle.bq_model.specs.History.{last_queue}
 use Rattle.bq_model.specs.Own.{mine}
 use Rattle.bq_model.proofs.Histories.{last_queue-push}
 use Rattle.bq_model.proofs.Growing.{mine-append}
+use Rattle.bq_model.proofs.OpenQueues.{stays_open}
 use Rattle.bulk_dispatcher.specs.Hands.{EndedEmpty}
 use Rattle.bulk_dispatcher.proofs.Fifo.{nothing_after_empty}
 
@@ -49,11 +52,11 @@ ends (x ∷ h) = elim (ends h) [
 ]
 
 -- what is left by a caller's group that found nothing, where it is the last group
-left_by_last : (batch c : ℕ) (h before : List Group) (group : Group) → h ≡ before ++ group ∷ [] → group.caller ≡ c → EndedEmpty batch c h → last_queue h ≡ []
+left_by_last : (batch c : ℕ) (h before : List Group) (group : Group) → h ≡ before ++ group ∷ [] → group.caller ≡ c → EndedEmpty batch c h → (last_queue h).values ≡ []
 left_by_last batch c h before group e whose ended =
     elim (ends ended.after) [
       | At_once none ↦
-          ap last_queue (ended.stands ∙ ap (λ gs. ended.before ++ ended.group ∷ gs) none) ∙ last_queue-push ended.before ended.group
+          ap (λ (q : Queue). q.values) (ap last_queue (ended.stands ∙ ap (λ gs. ended.before ++ ended.group ∷ gs) none) ∙ last_queue-push ended.before ended.group)
           ∙ nothing_after_empty (last_queue ended.before) ended.group.ops ended.found ended.empty
       | With b g is ↦
           let whole : h ≡ (ended.before ++ ended.group ∷ b) ++ g ∷ [] =
@@ -67,10 +70,10 @@ known_last n [] group h = h.0
 known_last n (x ∷ before) group h = known_last n before group h.1
 
 -- Where each hand ended on nothing, and main made no operation, nothing is left.
-pub nothing_left : (hands batch : ℕ) (h : List Group) → All (λ g. g.caller < hands + 1) h → mine h hands ≡ [] → ((c : ℕ) → c < hands → EndedEmpty batch c h) → last_queue h ≡ []
-nothing_left hands batch h known idle ended =
+no_value_left : (hands batch : ℕ) (h : List Group) → All (λ g. g.caller < hands + 1) h → mine h hands ≡ [] → ((c : ℕ) → c < hands → EndedEmpty batch c h) → (last_queue h).values ≡ []
+no_value_left hands batch h known idle ended =
     elim (ends h) [
-      | At_once e ↦ ap last_queue e
+      | At_once e ↦ ap (λ (gs : List Group). (last_queue gs).values) e
       | With before group e ↦
           let below : group.caller < hands + 1 = known_last (hands + 1) before group (subst (AllByRecursion (λ g. g.caller < hands + 1)) e (recursion_from_All _ h known)) in
           elim (cases_lt group.caller hands) [
@@ -78,3 +81,6 @@ nothing_left hands batch h known idle ended =
             | inr above ↦ absurd (no_group before group hands (omega arith) (sym (ap (λ gs. mine gs hands) e) ∙ idle))
           ]
     ]
+
+pub nothing_left : (hands batch : ℕ) (h : List Group) → All (λ g. g.caller < hands + 1) h → NeverShut h → mine h hands ≡ [] → ((c : ℕ) → c < hands → EndedEmpty batch c h) → last_queue h ≡ unshut []
+nothing_left hands batch h known never idle ended = (λ i. queue_of (no_value_left hands batch h known idle ended i) (stays_open h never i))

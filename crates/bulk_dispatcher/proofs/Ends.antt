@@ -29,6 +29,7 @@ at_hand R xs d c l h =
 pub all_done : (file : List JobUnit) (hands batch : ℕ) (runs : List Run) (books : List (List Group)) → length runs ≡ hands → HandsRan file hands batch 0 runs → LanesClosed file hands runs books → AllDone file hands batch books (by_hand runs)
 all_done file hands batch runs books e ran closed = record {
   proper = closed.proper;
+  never_shut = closed.never_shut;
   idle = closed.idle;
   done = λ c l.
       let within : c < length runs = omega (arith, l, e) in

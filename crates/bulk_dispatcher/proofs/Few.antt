@@ -6,9 +6,10 @@ use Rattle.std.proofs.lemmas.List.FromFn.{length-range_with_len}
 use Rattle.bq_model.specs.declared.op.Op.{Op}
 use Rattle.bq_model.specs.declared.op.Op.TheVariants.{Enq, Deq}
 use Rattle.bq_model.specs.declared.op.Answer.{Answer}
-use Rattle.bq_model.specs.declared.op.Answer.TheVariants.{Done, Got, Empty}
+use Rattle.bq_model.specs.declared.op.Answer.TheVariants.{Done, Got, Empty, Refused}
 use Rattle.bq_model.specs.declared.group.Group.{Group}
 use Rattle.bq_model.specs.declared.shape.Shape.{Shape}
+use Rattle.bq_model.specs.Queue.{queue_of}
 use Rattle.bq_model.specs.Replay.{answers_from}
 use Rattle.bq_model.specs.History.{operations, last_queue}
 use Rattle.bq_model.specs.Own.{mine, own, next_group}
@@ -23,7 +24,7 @@ use Rattle.bulk_dispatcher.specs.Hands.{answers_to, empties, found_nothing_by}
 use Rattle.bulk_dispatcher.specs.Rounds.{ends_empty}
 use Rattle.bulk_dispatcher.specs.Stops.{Serves, NearlySpent}
 use Rattle.bulk_dispatcher.specs.UnitOps.{unit_ops}
-use Rattle.bulk_dispatcher.proofs.Counts.{empties-append, each_counted}
+use Rattle.bulk_dispatcher.proofs.Counts.{empties-append, empties_at_most}
 use Rattle.bulk_dispatcher.proofs.Grows.{answers_to-later}
 use Rattle.bulk_dispatcher.proofs.Owns.{own-later, own_after_empty}
 use Rattle.bulk_dispatcher.proofs.Steps.{answers_to-grew, values_of_unit}
@@ -49,9 +50,9 @@ found-saw_more c old new s = ap empties (answers-saw_more c old new s)
 pub found_at_most : (c : ℕ) (ops : List Op) (answers : List Answer) (old new : List Group) → Grew c ops answers old new → found_nothing_by new c ≤ found_nothing_by old c + length ops
 found_at_most c ops answers old new g =
     let more = found-grew c ops answers old new g in
-    let some = ap empties g.answered in
-    let all = each_counted (last_queue (old ++ g.between)) ops in
-    omega (arith, more, some, all)
+    let all = empties_at_most answers in
+    let same = length-grew c ops answers old new g in
+    omega (arith, more, all, same)
 
 -- a unit's operations fit a batch
 pub unit_short : (first count : ℕ) → count ≤ 100 → length (unit_ops (range_with_len first count)) ≤ 255
@@ -106,22 +107,23 @@ tries-dequeue c answers old now next less g = go answers g (length-grew c (Deq �
     go (x ∷ y ∷ xs) g l = absurd (omega (arith, l))
     go (Done ∷ []) g l = let e = found-grew c (Deq ∷ []) (Done ∷ []) now next g in inl (omega (arith, e, less))
     go (Got v ∷ []) g l = let e = found-grew c (Deq ∷ []) (Got v ∷ []) now next g in inl (omega (arith, e, less))
+    go (Refused ∷ []) g l = let e = found-grew c (Deq ∷ []) (Refused ∷ []) now next g in inl (omega (arith, e, less))
     go (Empty ∷ []) g l = let e = found-grew c (Deq ∷ []) (Empty ∷ []) now next g in inr (omega (arith, e, less), own_after_empty c (Deq ∷ []) (Empty ∷ []) [] now next refl g)
 
 -- A batch of dequeues whose last one got a value found nothing nowhere.
-all_empty : (n : ℕ) → ends_empty true (answers_from [] (replicate n Deq)) ≡ true
-all_empty zero = refl
-all_empty (suc n) = all_empty n
+all_empty : (b : Bool) (n : ℕ) → ends_empty true (answers_from (queue_of [] b) (replicate n Deq)) ≡ true
+all_empty b zero = refl
+all_empty b (suc n) = all_empty b n
 
-none_found : (q : List ℕ) (n : ℕ) (before : Bool) → ends_empty before (answers_from q (replicate n Deq)) ≡ false → empties (answers_from q (replicate n Deq)) ≡ 0
-none_found q zero before e = refl
-none_found [] (suc n) before e = absurd (cc (sym (all_empty n) ∙ e))
-none_found (v ∷ q) (suc n) before e = none_found q n false e
+none_found : (b : Bool) (q : List ℕ) (n : ℕ) (before : Bool) → ends_empty before (answers_from (queue_of q b) (replicate n Deq)) ≡ false → empties (answers_from (queue_of q b) (replicate n Deq)) ≡ 0
+none_found b q zero before e = refl
+none_found b [] (suc n) before e = absurd (cc (sym (all_empty b n) ∙ e))
+none_found b (v ∷ q) (suc n) before e = none_found b q n false e
 
 pub batch_found : (c n : ℕ) (answers : List Answer) (old new : List Group) → Grew c (replicate n Deq) answers old new → ends_empty false answers ≡ false → found_nothing_by new c ≡ found_nothing_by old c
 batch_found c n answers old new g e =
     let more = found-grew c (replicate n Deq) answers old new g in
-    let none = ap empties g.answered ∙ none_found (last_queue (old ++ g.between)) n false (sym (ap (ends_empty false) g.answered) ∙ e) in
+    let none = ap empties g.answered ∙ none_found (last_queue (old ++ g.between)).shut (last_queue (old ++ g.between)).values n false (sym (ap (ends_empty false) g.answered) ∙ e) in
     omega (arith, more, none)
 
 -- where the allowance doesn't take the operations of a batch, it is nearly spent

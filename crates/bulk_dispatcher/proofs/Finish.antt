@@ -6,6 +6,7 @@ use Rattle.std.proofs.lemmas.List.{length-map}
 use Rattle.std.proofs.lemmas.List.Elements.{All-head, All-tail, recursion_from_All}
 use Rattle.bq_model.specs.declared.group.Group.{Group}
 use Rattle.bq_model.specs.Own.{mine}
+use Rattle.bq_model.specs.NoShut.{NeverShut}
 use Rattle.bq_model.specs.Proper.{IsProper}
 use Rattle.bq_model.specs.Grows.{SawMore}
 use Rattle.job_text.specs.declared.file.Unit.{Unit as JobUnit}
@@ -71,9 +72,9 @@ pub record IsFinished (file : List JobUnit) (hands batch : ℕ) (books : List (L
 
 pub finished : (numbers : List ℕ) (file : List JobUnit) (hands batch : ℕ) (runs : List Run) (rows : List (List (List Group))) (own books : List (List Group)) (sorted : List Reply) → 0 < hands → IsJobFile file → numbers ≡ lanes_of file → length runs ≡ hands
     → AllZip (λ c run. HandRan numbers file hands batch c run.seen run.replies) (range_with_len 0 (length runs)) runs → rows ≡ map (λ (run : Run). run.seen) runs ++ own ∷ [] → All (λ h. h ≡ []) own
-    → length books ≡ length numbers → All (λ book. IsProper (hands + 1) book) books → AllZip (λ c row. AllZip (SawMore c) row books) (range_with_len 0 (length rows)) rows
+    → length books ≡ length numbers → All (λ book. IsProper (hands + 1) book) books → All NeverShut books → AllZip (λ c row. AllZip (SawMore c) row books) (range_with_len 0 (length rows)) rows
     → IsPermutation (flat_map (λ (run : Run). run.replies) runs) sorted → IsNonDecreasingBy (λ (r : Reply). r.job) sorted → IsFinished file hands batch books sorted
-finished numbers file hands batch runs rows own books sorted pos ranges lanes many ran rows_are none as_many proper begun moved rises =
+finished numbers file hands batch runs rows own books sorted pos ranges lanes many ran rows_are none as_many proper never begun moved rises =
     let seen : List (List (List Group)) = map (λ (run : Run). run.seen) runs in
     let count : length seen ≡ length runs = length-map runs (λ (run : Run). run.seen) in
     let both = all_but_one (λ c row. AllZip (SawMore c) row books) rows seen own rows_are begun in
@@ -82,6 +83,7 @@ finished numbers file hands batch runs rows own books sorted pos ranges lanes ma
     let done : HandsRan file hands batch 0 runs = zip_weaker (λ c (run : Run). HandRan numbers file hands batch c run.seen run.replies) (λ c run. HandDone file hands batch c run.seen run.replies) (λ c run h. ran_done numbers file hands batch c run.seen run.replies lanes h) (range_with_len 0 (length runs)) runs ran in
     let closed : LanesClosed file hands runs books = record {
       proper = beside (λ book. IsProper (hands + 1) book) (lanes_of file) books lane_count proper;
+      never_shut = beside NeverShut (lanes_of file) books lane_count never;
       idle = unseen hands (lanes_of file) own books lane_count none last;
       kept = subst (λ n. AllZip (λ c (run : Run). AllZip (SawMore c) run.seen books) (range_with_len 0 n) runs) count (zip_unrow (λ c row. AllZip (SawMore c) row books) (λ (run : Run). run.seen) (range_with_len 0 (length seen)) runs both.0);
     } in

@@ -3,7 +3,7 @@ use Rattle.std.proofs.Common.{◌≡◌, ℕ, zero, suc, ◌+◌, ◌<◌, List,
 use Rattle.std.specs.List.{flat_map, range_with_len, zip, AllByRecursion}
 use Rattle.std.specs.List.Sorted.{IsPermutation}
 use Rattle.bq_model.specs.declared.op.Answer.{Answer}
-use Rattle.bq_model.specs.declared.op.Answer.TheVariants.{Done, Got, Empty}
+use Rattle.bq_model.specs.declared.op.Answer.TheVariants.{Done, Got, Empty, Refused}
 use Rattle.bq_model.specs.declared.group.Group.{Group}
 use Rattle.bq_model.specs.History.{answers_of}
 use Rattle.bq_model.specs.Own.{callers_of}
@@ -18,12 +18,14 @@ values_caught n [] = refl
 values_caught n (Done ∷ answers) = values_caught (n + 1) answers
 values_caught n (Got v ∷ answers) = ap (λ vs. v ∷ vs) (values_caught (n + 1) answers)
 values_caught n (Empty ∷ answers) = values_caught (n + 1) answers
+values_caught n (Refused ∷ answers) = values_caught (n + 1) answers
 
 pub got-append : (xs ys : List Answer) → got (xs ++ ys) ≡ got xs ++ got ys
 got-append [] ys = refl
 got-append (Done ∷ xs) ys = got-append xs ys
 got-append (Got v ∷ xs) ys = ap (λ vs. v ∷ vs) (got-append xs ys)
 got-append (Empty ∷ xs) ys = got-append xs ys
+got-append (Refused ∷ xs) ys = got-append xs ys
 
 -- answer by answer
 abbrev value_of : ℕ × Answer → List ℕ

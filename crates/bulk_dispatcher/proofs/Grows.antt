@@ -7,6 +7,7 @@ use Rattle.std.proofs.lemmas.List.{append-nil, map-append}
 use Rattle.std.proofs.lemmas.List.Elements.{filter-append}
 use Rattle.bq_model.specs.declared.op.Answer.{Answer}
 use Rattle.bq_model.specs.declared.group.Group.{Group}
+use Rattle.bq_model.specs.Queue.{Queue, unshut}
 use Rattle.bq_model.specs.Replay.{answers_from, queue_from}
 use Rattle.bq_model.specs.History.{operations, answers_of, last_queue}
 use Rattle.bq_model.specs.Own.{mine, callers_of}
@@ -25,12 +26,12 @@ zip-append (x ∷ xs) us [] vs e = absurd (omega (arith, e))
 zip-append (x ∷ xs) us (y ∷ ys) vs e = ap (λ ps. (x, y) ∷ ps) (zip-append xs us ys vs (omega (arith, e)))
 
 -- the answers to caller c among groups, after this queue
-abbrev pub answers_in : List ℕ → List Group → ℕ → List Answer
+abbrev pub answers_in : Queue → List Group → ℕ → List Answer
 answers_in q h c = map (λ p. p.1) (filter (λ p. p.0 == c) (zip (callers_of h) (answers_from q (operations h))))
 
 pub answers_to-append : (h more : List Group) (c : ℕ) → answers_to (h ++ more) c ≡ answers_to h c ++ answers_in (last_queue h) more c
 answers_to-append h more c =
-    let answers : answers_of (h ++ more) ≡ answers_of h ++ answers_from (last_queue h) (operations more) = ap (answers_from []) (operations-append h more) ∙ answers_from-append [] (operations h) (operations more) in
+    let answers : answers_of (h ++ more) ≡ answers_of h ++ answers_from (last_queue h) (operations more) = ap (answers_from (unshut [])) (operations-append h more) ∙ answers_from-append (unshut []) (operations h) (operations more) in
     let pairs : given (h ++ more) ≡ given h ++ zip (callers_of more) (answers_from (last_queue h) (operations more)) =
     ap (λ cs. zip cs (answers_of (h ++ more))) (callers_of-append h more) ∙ ap (zip (callers_of h ++ callers_of more)) answers
     ∙ zip-append (callers_of h) (callers_of more) (answers_of h) (answers_from (last_queue h) (operations more)) (as_many h) in
@@ -52,18 +53,18 @@ no_own (suc n) c d cs [] ys e l = absurd (omega (arith, l))
 no_own (suc n) c d cs (x ∷ xs) ys e l = rw e (no_own n c d cs xs ys e (omega (arith, l)))
 
 -- group by group
-pub answers_in-own : (q : List ℕ) (g : Group) (h : List Group) (c : ℕ) → g.caller ≡ c → answers_in q (g ∷ h) c ≡ answers_from q g.ops ++ answers_in (queue_from q g.ops) h c
+pub answers_in-own : (q : Queue) (g : Group) (h : List Group) (c : ℕ) → g.caller ≡ c → answers_in q (g ∷ h) c ≡ answers_from q g.ops ++ answers_in (queue_from q g.ops) h c
 answers_in-own q g h c e =
     ap (λ as'. map (λ p. p.1) (filter (λ p. p.0 == c) (zip (replicate (length g.ops) g.caller ++ callers_of h) as'))) (answers_from-append q g.ops (operations h))
     ∙ all_own (length g.ops) c g.caller (callers_of h) (answers_from q g.ops) (answers_from (queue_from q g.ops) (operations h)) (eq-eqb g.caller c e) (length-answers_from q g.ops)
 
-pub answers_in-other : (q : List ℕ) (g : Group) (h : List Group) (c : ℕ) → g.caller ≢ c → answers_in q (g ∷ h) c ≡ answers_in (queue_from q g.ops) h c
+pub answers_in-other : (q : Queue) (g : Group) (h : List Group) (c : ℕ) → g.caller ≢ c → answers_in q (g ∷ h) c ≡ answers_in (queue_from q g.ops) h c
 answers_in-other q g h c e =
     ap (λ as'. map (λ p. p.1) (filter (λ p. p.0 == c) (zip (replicate (length g.ops) g.caller ++ callers_of h) as'))) (answers_from-append q g.ops (operations h))
     ∙ no_own (length g.ops) c g.caller (callers_of h) (answers_from q g.ops) (answers_from (queue_from q g.ops) (operations h)) (ne_eqb g.caller c e) (length-answers_from q g.ops)
 
 -- where none of the groups is the caller's
-pub answers_in-none : (q : List ℕ) (h : List Group) (c : ℕ) → mine h c ≡ [] → answers_in q h c ≡ []
+pub answers_in-none : (q : Queue) (h : List Group) (c : ℕ) → mine h c ≡ [] → answers_in q h c ≡ []
 answers_in-none q [] c e = refl
 answers_in-none q (g ∷ h) c e =
     elim (cases_eq g.caller c) [

@@ -62,7 +62,7 @@ values_of h c = map (λ (x : Catch). x.value) (caught h c)
 -- What the hands caught on a lane are the numbers of its jobs, each once.
 pub caught_once : (file : List JobUnit) (hands batch lane : ℕ) (book : List Group) → 0 < hands → LaneDone file hands batch lane book → IsPermutation (jobs_on file lane) (flat_map (values_of book) (range_with_len 0 hands))
 caught_once file hands batch lane book pos d =
-    let empty = nothing_left hands batch book d.proper.known d.idle (λ c l. (d.did c l).ended) in
+    let empty = nothing_left hands batch book d.proper.known d.never_shut d.idle (λ c l. (d.did c l).ended) in
     let once = each_once file hands lane batch book pos d.proper.known d.idle d.did in
     let got = got_by_all hands book (of_hands hands book (recursion_from_All _ book d.proper.known) d.idle) in
     IsPermutation-trans _ _ _ (subst (λ vs. IsPermutation (jobs_on file lane) vs) (sym (got_is_enqueued book empty)) once) (IsPermutation-sym _ _ got)

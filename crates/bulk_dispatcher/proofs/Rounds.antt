@@ -6,7 +6,7 @@ use Rattle.std.proofs.lemmas.List.Elements.{filter_map-append}
 use Rattle.bq_model.specs.declared.op.Op.{Op}
 use Rattle.bq_model.specs.declared.op.Op.TheVariants.{Deq}
 use Rattle.bq_model.specs.declared.op.Answer.{Answer}
-use Rattle.bq_model.specs.declared.op.Answer.TheVariants.{Done, Got, Empty}
+use Rattle.bq_model.specs.declared.op.Answer.TheVariants.{Done, Got, Empty, Refused}
 use Rattle.bq_model.specs.declared.group.Group.{Group}
 use Rattle.bq_model.specs.Values.{enqueued}
 use Rattle.bq_model.specs.Grows.{Grew, SawMore}
@@ -52,16 +52,19 @@ pub reply_of_answer : (file : List JobUnit) (lane c n : ℕ) (a : Answer) → re
 reply_of_answer file lane c n Done = refl
 reply_of_answer file lane c n (Got v) = refl
 reply_of_answer file lane c n Empty = refl
+reply_of_answer file lane c n Refused = refl
 
 pub nothing_of_answer : (lane c n : ℕ) (a : Answer) → found_nothing (outcome_of lane c n a) ≡ is_empty a
 nothing_of_answer lane c n Done = refl
 nothing_of_answer lane c n (Got v) = refl
 nothing_of_answer lane c n Empty = refl
+nothing_of_answer lane c n Refused = refl
 
 catches_apart : (n : ℕ) (a : Answer) (answers : List Answer) → caught_from n (a ∷ answers) ≡ caught_from n (a ∷ []) ++ caught_from (n + 1) answers
 catches_apart n Done answers = refl
 catches_apart n (Got v) answers = refl
 catches_apart n Empty answers = refl
+catches_apart n Refused answers = refl
 
 pub replies_apart : (file : List JobUnit) (lane c n : ℕ) (a : Answer) (answers : List Answer) → new_replies file lane c n (a ∷ answers) ≡ new_replies file lane c n (a ∷ []) ++ new_replies file lane c (n + 1) answers
 replies_apart file lane c n a answers =
@@ -72,6 +75,7 @@ pub ends_found : (before : Bool) (answers : List Answer) (a : Answer) → ends_e
 ends_found before [] Done e = absurd (cc e)
 ends_found before [] (Got v) e = absurd (cc e)
 ends_found before [] Empty e = ([], refl)
+ends_found before [] Refused e = absurd (cc e)
 ends_found before (b ∷ answers) a e = let rest = ends_found (is_empty a) answers b e in (a ∷ rest.0, ap (λ xs. a ∷ xs) rest.1)
 
 -- PutsNothing

@@ -8,8 +8,9 @@ use Rattle.std.proofs.lemmas.List.Elements.{All-push, All-weaker, Contains-appen
 use Rattle.bq_model.specs.declared.op.Op.{Op}
 use Rattle.bq_model.specs.declared.op.Op.TheVariants.{Enq, Deq}
 use Rattle.bq_model.specs.declared.op.Answer.{Answer}
-use Rattle.bq_model.specs.declared.op.Answer.TheVariants.{Done, Got, Empty}
+use Rattle.bq_model.specs.declared.op.Answer.TheVariants.{Done, Got, Empty, Refused}
 use Rattle.bq_model.specs.declared.group.Group.{Group}
+use Rattle.bq_model.specs.Queue.{Queue, unshut}
 use Rattle.bq_model.specs.Replay.{answers_from, queue_from}
 use Rattle.bq_model.specs.History.{operations, last_queue}
 use Rattle.bq_model.specs.Own.{mine, next_group}
@@ -25,7 +26,7 @@ use Rattle.bulk_dispatcher.proofs.Grows.{answers_in, answers_to-append, answers_
 use Rattle.bq_model.specs.Values.{enqueued}
 
 -- as many answers as operations of the caller
-pub length-answers_in : (q : List ℕ) (h : List Group) (c : ℕ) → length (answers_in q h c) ≡ length (operations (mine h c))
+pub length-answers_in : (q : Queue) (h : List Group) (c : ℕ) → length (answers_in q h c) ≡ length (operations (mine h c))
 length-answers_in q [] c = refl
 length-answers_in q (g ∷ h) c =
     elim (cases_eq g.caller c) [
@@ -43,6 +44,7 @@ caught_from-append n [] ys = ap (λ k. caught_from k ys) (sym (add-zero n))
 caught_from-append n (Done ∷ xs) ys = caught_from-append (n + 1) xs ys ∙ ap (λ k. caught_from (n + 1) xs ++ caught_from k ys) (omega arith)
 caught_from-append n (Got v ∷ xs) ys = ap (λ cs. record { serial = n; value = v } ∷ cs) (caught_from-append (n + 1) xs ys ∙ ap (λ k. caught_from (n + 1) xs ++ caught_from k ys) (omega arith))
 caught_from-append n (Empty ∷ xs) ys = caught_from-append (n + 1) xs ys ∙ ap (λ k. caught_from (n + 1) xs ++ caught_from k ys) (omega arith)
+caught_from-append n (Refused ∷ xs) ys = caught_from-append (n + 1) xs ys ∙ ap (λ k. caught_from (n + 1) xs ++ caught_from k ys) (omega arith)
 
 -- The answers to a caller grow by those to its group.
 pub answers_to-grew : (c : ℕ) (ops : List Op) (answers : List Answer) (old new : List Group) → Grew c ops answers old new → answers_to new c ≡ answers_to old c ++ answers
@@ -61,7 +63,7 @@ answers_to-grew c ops answers old new g =
 pub caught-grew : (c : ℕ) (ops : List Op) (answers : List Answer) (old new : List Group) → Grew c ops answers old new → caught new c ≡ caught old c ++ caught_from (length (operations (mine old c))) answers
 caught-grew c ops answers old new g =
     ap (caught_from 0) (answers_to-grew c ops answers old new g) ∙ caught_from-append 0 (answers_to old c) answers
-    ∙ ap (λ k. caught old c ++ caught_from k answers) (zero-add (length (answers_to old c)) ∙ length-answers_in [] old c)
+    ∙ ap (λ k. caught old c ++ caught_from k answers) (zero-add (length (answers_to old c)) ∙ length-answers_in (unshut []) old c)
 
 -- and so does what it enqueued
 pub values-grew : (c : ℕ) (ops : List Op) (answers : List Answer) (old new : List Group) → Grew c ops answers old new → enqueued (operations (mine new c)) ≡ enqueued (operations (mine old c)) ++ enqueued ops

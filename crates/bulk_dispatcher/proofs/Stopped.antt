@@ -10,6 +10,7 @@ use Rattle.bq_model.specs.declared.group.Group.{Group}
 use Rattle.bq_model.specs.History.{operations}
 use Rattle.bq_model.specs.Own.{mine}
 use Rattle.bq_model.specs.Values.{enqueued}
+use Rattle.bq_model.specs.NoShut.{NeverShut}
 use Rattle.bq_model.specs.Proper.{IsProper}
 use Rattle.bq_model.specs.Grows.{SawMore}
 use Rattle.bq_session.specs.Outcome.{made_by}
@@ -86,6 +87,7 @@ module _ {X : Type 0} (seen : X → List (List Group)) (replies : X → List Rep
     pub own_unseen : All (λ h. h ≡ []) own
     pub as_many : length books ≡ length numbers
     pub proper : All (λ book. IsProper (hands + 1) book) books
+    pub never_shut : All NeverShut books
     pub begun : AllZip (λ c row. AllZip (SawMore c) row books) (range_with_len 0 (length rows)) rows
 
   stopped_not : (a : AllRan) (d : X) (c : ℕ) → c < hands → HandStopped numbers file hands c (seen (get_or runs c d)) → ⊥
@@ -106,8 +108,9 @@ module _ {X : Type 0} (seen : X → List (List Group)) (replies : X → List Rep
       λ k m. put_later file hands lane k (get_or (seen (get_or runs k d)) s.at []) book (seen_here k m)
       (put_some numbers file hands batch k s.at (seen (get_or runs k d)) (replies (get_or runs k d)) (work (get_or runs k d)) s.within (at_rank Ran runs d k (omega (arith, n, m)) a.ran)) in
       let known = (All-get_or (λ b. IsProper (hands + 1) b) books s.at [] here a.proper).known in
+      let never = All-get_or NeverShut books s.at [] here a.never_shut in
       let idle : mine book hands ≡ [] = zip_at (λ m b. mine b hands ≡ []) numbers books s.at 0 [] (unseen hands numbers own books (sym a.as_many) a.own_unseen last) s.within in
-      let most = operations_at_most file hands lane c book a.some known idle put l in
+      let most = operations_at_most file hands lane c book a.some known never idle put l in
       let found = found-saw_more c (get_or (seen (get_or runs c d)) s.at []) book (seen_here c l) in
       let made = made-saw_more c (get_or (seen (get_or runs c d)) s.at []) book (seen_here c l) in
       let few = s.few in

@@ -3,7 +3,7 @@ use Rattle.std.specs.Prelude.{◌≡◌, ℕ, ◌+◌, ◌<◌, ◌≤◌, Optio
 use Rattle.std.specs.List.{flat_map, zip, filter_map, range_with_len, AllZip}
 use Rattle.bq_model.specs.declared.op.Op.TheVariants.{Deq}
 use Rattle.bq_model.specs.declared.op.Answer.{Answer}
-use Rattle.bq_model.specs.declared.op.Answer.TheVariants.{Done, Got, Empty}
+use Rattle.bq_model.specs.declared.op.Answer.TheVariants.{Done, Got, Empty, Refused}
 use Rattle.bq_model.specs.declared.group.Group.{Group}
 use Rattle.bq_model.specs.Replay.{answers_from}
 use Rattle.bq_model.specs.History.{operations, answers_of, last_queue}
@@ -12,6 +12,7 @@ use Rattle.job_text.specs.declared.file.Unit.{Unit as JobUnit}
 use Rattle.job_text.specs.JobFile.{job_at}
 use Rattle.job_work.specs.declared.job.Job.{Job}
 use Rattle.job_work.specs.Answer.{answer_of}
+use Rattle.bq_model.specs.NoShut.{NeverShut}
 use Rattle.bq_model.specs.Proper.{IsProper}
 use Rattle.bulk_dispatcher.specs.declared.reply.Reply.{Reply}
 use Rattle.bq_model.specs.Grows.{SawMore}
@@ -48,6 +49,7 @@ empties [] = 0
 empties (Done ∷ answers) = empties answers
 empties (Got v ∷ answers) = empties answers
 empties (Empty ∷ answers) = 1 + empties answers
+empties (Refused ∷ answers) = empties answers
 
 -- how many dequeues of caller c found nothing
 abbrev pub found_nothing_by : List Group → ℕ → ℕ
@@ -64,6 +66,7 @@ caught_from n [] = []
 caught_from n (Done ∷ answers) = caught_from (n + 1) answers
 caught_from n (Got v ∷ answers) = record { serial = n; value = v } ∷ caught_from (n + 1) answers
 caught_from n (Empty ∷ answers) = caught_from (n + 1) answers
+caught_from n (Refused ∷ answers) = caught_from (n + 1) answers
 
 -- what caller c got in a history
 abbrev pub caught : List Group → ℕ → List Catch
@@ -97,6 +100,7 @@ pub record HandDone (file : List JobUnit) (hands batch c : ℕ) (seen : List (Li
 -- What all hands did, by the books. Hand c made the replies `by_hand c`, and main's caller, which is the last one, made no operation.
 pub record AllDone (file : List JobUnit) (hands batch : ℕ) (books : List (List Group)) (by_hand : ℕ → List Reply) : Type 0 where
   pub proper : AllZip (λ lane book. IsProper (hands + 1) book) (lanes_of file) books
+  pub never_shut : AllZip (λ lane book. NeverShut book) (lanes_of file) books
   pub idle : AllZip (λ lane book. mine book hands ≡ []) (lanes_of file) books
   pub done : (c : ℕ) → c < hands → HandDone file hands batch c books (by_hand c)
 
@@ -117,6 +121,7 @@ HandsRan file hands batch from runs = AllZip (λ c run. HandDone file hands batc
 -- The lanes of a file were closed. Each book begins with what each hand has seen, and has of it what it made and no more.
 pub record LanesClosed (file : List JobUnit) (hands : ℕ) (runs : List Run) (books : List (List Group)) : Type 0 where
   pub proper : AllZip (λ lane book. IsProper (hands + 1) book) (lanes_of file) books
+  pub never_shut : AllZip (λ lane book. NeverShut book) (lanes_of file) books
   pub idle : AllZip (λ lane book. mine book hands ≡ []) (lanes_of file) books
   pub kept : AllZip (λ c run. AllZip (SawMore c) run.seen books) (range_with_len 0 (length runs)) runs
 

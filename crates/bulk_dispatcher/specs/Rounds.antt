@@ -3,7 +3,7 @@ use Rattle.std.specs.Prelude.{◌≡◌, ℕ, ◌+◌, ◌<◌, ◌≤◌, Bool,
 use Rattle.std.specs.List.{cons_option}
 use Rattle.bq_model.specs.declared.op.Op.{Op}
 use Rattle.bq_model.specs.declared.op.Answer.{Answer}
-use Rattle.bq_model.specs.declared.op.Answer.TheVariants.{Done, Got, Empty}
+use Rattle.bq_model.specs.declared.op.Answer.TheVariants.{Done, Got, Empty, Refused}
 use Rattle.bq_model.specs.declared.group.Group.{Group}
 use Rattle.bq_model.specs.declared.shape.Shape.{Shape}
 use Rattle.bq_model.specs.Values.{enqueued}
@@ -36,6 +36,7 @@ abbrev pub is_empty : Answer → Bool
 is_empty Done = false
 is_empty (Got v) = false
 is_empty Empty = true
+is_empty Refused = false
 
 -- whether the last of the answers says so; where there is none, what was said before them
 abbrev pub ends_empty : Bool → List Answer → Bool

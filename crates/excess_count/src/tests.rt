@@ -1,7 +1,10 @@
 // Counts, places and answers against batches that were replayed by hand, and against a replay by a queue.
-ghost use Rattle.std.specs.Prelude.{◌≡◌, ◌≤◌, length, IfOk};
+ghost use Rattle.std.specs.Prelude.{◌≤◌, length, IfOk};
+ghost use Rattle.bq_model.specs.NoShut.{NoShut};
 
-use crate::{Counts, Which, answer_all, answer_at, successes};
+use crate::{
+    Counts, Which, answer_all, answer_at, answer_at_shut, pair_shut, successes, successes_shut,
+};
 use bq_model::{Answer, Answers, Batch, Op};
 use std::alloc::{AllocError, Global};
 use std::collections::VecDeque;
@@ -20,13 +23,14 @@ struct Row<'a> {
     last_queue: &'a [u64],
 }
 
-/// A batch of at most 256 operations.
-fn batch_of(alloc: Global, ops: &[Op]) -> Result<Batch, Fail>
+/// A batch of at most 256 operations, none of them a Shut.
+fn batch_of(rt: &impl Abort, alloc: Global, ops: &[Op]) -> Result<Batch, Fail>
     requires { length ops.now ≤ 256 }
-    ensures { IfOk result (λ batch. batch.items ≡ ops.now) }
+    ensures { IfOk result (λ batch. NoShut batch.items) }
 {
     let mut batch = Batch::new(alloc, 256)?;
     for op in ops {
+        assert!(rt; *op != Op::Shut);
         batch.push(*op);
     }
     Ok(batch)
@@ -44,7 +48,9 @@ fn values_of(alloc: Global, queue: &[u64], ops: &[Op]) -> Result<Vec<u64>, Alloc
 }
 
 /// What `answer_at` says of each dequeue.
-fn places_of(alloc: Global, batch: &Batch, n: u64) -> Result<Vec<Which>, AllocError> {
+fn places_of(alloc: Global, batch: &Batch, n: u64) -> Result<Vec<Which>, AllocError>
+    requires { NoShut batch.now.items }
+{
     let mut places = Vec::new(alloc);
     for k in 0..batch.len() {
         if let Op::Deq = batch.get(k) {
@@ -61,7 +67,9 @@ fn answers_of(
     batch: &Batch,
     n: u64,
     values: &[u64],
-) -> Result<Answers, Fail> {
+) -> Result<Answers, Fail>
+    requires { NoShut batch.now.items }
+{
     let mut answers = Answers::new(alloc, batch.len())?;
     let got = successes(&Counts::of(batch), n) as usize;
     assert!(rt; got <= values.len());
@@ -73,11 +81,13 @@ fn answers_of(
 fn replayed(
     alloc: Global,
     queue: &mut VecDeque<u64>,
+    mut shut: bool,
     ops: &[Op],
 ) -> Result<Vec<Answer>, AllocError> {
     let mut answers = Vec::new(alloc);
     for op in ops {
         answers.push(match op {
+            Op::Enq(_) if shut => Answer::Refused,
             Op::Enq(v) => {
                 queue.push_back(*v)?;
                 Answer::Done
@@ -86,6 +96,10 @@ fn replayed(
                 Some(v) => Answer::Got(v),
                 None => Answer::Empty,
             },
+            Op::Shut => {
+                shut = true;
+                Answer::Done
+            }
         })?;
     }
     Ok(answers)
@@ -95,7 +109,7 @@ fn replayed(
 fn check_row(rt: &impl Abort, alloc: Global, row: &Row<'_>) -> Result<(), Fail>
     requires { length row.now.ops.now ≤ 256 }
 {
-    let batch = batch_of(alloc, row.ops)?;
+    let batch = batch_of(rt, alloc, row.ops)?;
     let n = row.queue.len() as u64;
     let counts = Counts::of(&batch);
     assert_eq!(rt; counts, row.counts);
@@ -201,7 +215,7 @@ fn batches_replayed_by_hand_come_out_by_counting(rt: HostRuntime) -> Result<(), 
 
 #[test]
 fn longest_batch_of_dequeues_takes_what_there_is(rt: HostRuntime) -> Result<(), Fail> {
-    let batch = batch_of(rt.alloc(), &[Op::Deq; 256])?;
+    let batch = batch_of(&rt, rt.alloc(), &[Op::Deq; 256])?;
     let counts = Counts::of(&batch);
     assert_eq!(rt;
         counts,
@@ -228,46 +242,76 @@ fn longest_batch_of_dequeues_takes_what_there_is(rt: HostRuntime) -> Result<(), 
     Ok(())
 }
 
-/// The answers of the batch on a queue of n values, each asked of `answer_at`.
-fn told(alloc: Global, batch: &Batch, n: u64, values: &[u64]) -> Result<Vec<Answer>, AllocError> {
+/// The answers of the batch on a queue of n values, each asked for by its place.
+fn told(
+    alloc: Global,
+    batch: &Batch,
+    n: u64,
+    shut: bool,
+    values: &[u64],
+) -> Result<Vec<Answer>, AllocError>
+    requires { NoShut batch.now.items }
+{
     let mut answers = Vec::new(alloc);
     for k in 0..batch.len() {
-        answers.push(match batch.get(k) {
-            Op::Enq(_) => Answer::Done,
-            Op::Deq => match answer_at(batch, n, k) {
-                Which::Stored(i) => values
-                    .get((i as usize).wrapping_sub(1))
-                    .map_or(Answer::Done, |v| Answer::Got(*v)),
-                Which::Nothing => Answer::Empty,
-            },
+        let Op::Deq = batch.get(k) else {
+            answers.push(if shut { Answer::Refused } else { Answer::Done })?;
+            continue;
+        };
+        let which = if shut {
+            answer_at_shut(batch, n, k)
+        } else {
+            answer_at(batch, n, k)
+        };
+        answers.push(match which {
+            Which::Stored(i) => values
+                .get((i as usize).wrapping_sub(1))
+                .map_or(Answer::Done, |v| Answer::Got(*v)),
+            Which::Nothing => Answer::Empty,
         })?;
     }
     Ok(answers)
 }
 
-/// Compares what is counted of a batch with its replay.
+/// Compares what is counted of a batch with its replay on a queue of these values, which was shut or not.
 fn check_against_replay(
     rt: &impl Abort,
     alloc: Global,
     ops: &[Op],
     start: &[u64],
+    shut: bool,
 ) -> Result<(), Fail>
     requires { length ops.now ≤ 256 }
 {
-    let batch = batch_of(alloc, ops)?;
+    let batch = batch_of(rt, alloc, ops)?;
     let n = start.len() as u64;
-    let values = values_of(alloc, start, ops)?;
     let mut queue = VecDeque::new(alloc);
     for v in start {
         queue.push_back(*v)?;
     }
-    let want = replayed(alloc, &mut queue, ops)?;
-    let answers = answers_of(rt, alloc, &batch, n, values.as_slice())?;
-    assert_eq!(rt; answers.as_slice(), want.as_slice());
-    let told = told(alloc, &batch, n, values.as_slice())?;
-    assert_eq!(rt; told.as_slice(), want.as_slice());
-    let got = successes(&Counts::of(&batch), n) as usize;
+    let want = replayed(alloc, &mut queue, shut, ops)?;
+    let values = if shut {
+        start.to_vec(alloc)?
+    } else {
+        values_of(alloc, start, ops)?
+    };
+    let counts = Counts::of(&batch);
+    let got = if shut {
+        successes_shut(&counts, n)
+    } else {
+        successes(&counts, n)
+    } as usize;
     assert!(rt; got <= values.len());
+    let answers = if shut {
+        let mut answers = Answers::new(alloc, batch.len())?;
+        pair_shut(batch.as_slice(), &values[..got], &mut answers);
+        answers
+    } else {
+        answers_of(rt, alloc, &batch, n, values.as_slice())?
+    };
+    assert_eq!(rt; answers.as_slice(), want.as_slice());
+    let told = told(alloc, &batch, n, shut, values.as_slice())?;
+    assert_eq!(rt; told.as_slice(), want.as_slice());
     let left = queue.make_contiguous();
     assert_eq!(rt; &values.as_slice()[got..], &*left);
     Ok(())
@@ -289,7 +333,9 @@ fn all_short_batches_on_short_queues_agree_with_a_replay(rt: HostRuntime) -> Res
             }
             assert!(rt; ops.len() <= 256);
             for n in 0..start.len() + 1 {
-                check_against_replay(&rt, rt.alloc(), ops.as_slice(), &start[..n])?;
+                for shut in [false, true] {
+                    check_against_replay(&rt, rt.alloc(), ops.as_slice(), &start[..n], shut)?;
+                }
             }
         }
     }

@@ -18,6 +18,7 @@ use std::collections::VecDeque;
 fn deferred<L: Lane>(session: &mut Session<L>, op: Op) -> Ticket
     requires place { length session.old.pending < session.old.futures.batch }
     requires ticket { live_count session.old.futures < session.old.futures.tickets }
+    requires no_shut { op ≢ Op.Shut }
     ensures pending { session.new.pending ≡ session.old.pending ++ op ∷ [] }
     ensures issued { IsIssued result session.old.futures session.new.futures }
     ensures pass_stays { session.new.pass ≡ session.old.pass }
@@ -33,6 +34,7 @@ fn deferred<L: Lane>(session: &mut Session<L>, op: Op) -> Ticket
             Err(Refused::BatchFull) => unreachable!(),
             Err(Refused::TicketsFull) => unreachable!(),
         },
+        Op::Shut => unreachable!(),
     }
 }
 
@@ -40,6 +42,7 @@ fn deferred<L: Lane>(session: &mut Session<L>, op: Op) -> Ticket
 fn defer<L: Lane>(session: &mut Session<L>, op: Op, held: &mut VecDeque<Ticket>)
     requires holds { HoldsPending session.old.futures.lane session.old.futures.caller session.old.pending held.old.items session.old }
     requires room { (length session.old.pending < 256) × (256 ≤ deque_capacity held.old) }
+    requires no_shut { op ≢ Op.Shut }
     ensures holds { HoldsPending session.old.futures.lane session.old.futures.caller (session.old.pending ++ op ∷ []) held.new.items session.new }
     ensures pass_stays { session.new.pass ≡ session.old.pass }
     ensures capacity_stays { deque_capacity held.new ≡ deque_capacity held.old }

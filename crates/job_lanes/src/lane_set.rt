@@ -4,6 +4,7 @@ ghost use Rattle.std.specs.Prelude.{◌≡◌, ◌<◌, ◌≤◌, ◌+◌, ℕ,
 ghost use Rattle.std.specs.List.{range_with_len, AllZip};
 ghost use Rattle.std.specs.Vec.{vec_len, vec_capacity};
 ghost use Rattle.bq_model.specs.Grows.{SawMore};
+ghost use Rattle.bq_model.specs.NoShut.{NeverShut};
 ghost use Rattle.bq_model.specs.Proper.{IsProper};
 ghost use Rattle.job_lanes.specs.Seats.{seat, IsForHands};
 ghost use Rattle.job_lanes.specs.Rest.{IsAtRest};
@@ -83,6 +84,7 @@ impl<L: Lane> LaneSet<L> {
         requires nothing_pending { All (λ desk. All (λ s. s.pending ≡ []) desk.sessions.items) desks.items }
         ensures one_each { length result.items ≡ length self.lanes.items }
         ensures proper { All (λ book. IsProper (length desks.items) (L.history book)) result.items }
+        ensures never_shut { All (λ book. NeverShut (L.history book)) result.items }
 
         // Each book begins with what each desk has seen, and has of each caller what its desk's session made, and no more.
         ensures begun { AllZip

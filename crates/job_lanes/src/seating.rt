@@ -2,6 +2,7 @@
 ghost use Rattle.std.specs.Prelude.{◌≡◌, ◌<◌, ◌+◌, ℕ, [], ◌∷◌, length, map, All, OnOk, slice_index_or, slice_set};
 ghost use Rattle.std.specs.List.{range_with_len, AllZip};
 ghost use Rattle.bq_model.specs.Grows.{SawMore};
+ghost use Rattle.bq_model.specs.NoShut.{NeverShut};
 ghost use Rattle.bq_model.specs.Proper.{IsProper};
 ghost use Rattle.job_lanes.specs.Seats.{seat};
 ghost use Rattle.job_lanes.specs.Rest.{IsAtRest};
@@ -68,6 +69,7 @@ pub fn close_last<L: Lane>(lane: L, desks: &mut Vec<Desk<L>>) -> L::Book
         × (s.pending ≡ [])) desk.sessions.items) (range_with_len 0 (length desks.old.items)) desks.old.items }
     ensures begun { AtEach (λ c old new. Longer (λ s. SawMore c (L.seen s.pass) (L.history result)) old.sessions.items new.sessions.items) 0 desks.old.items desks.new.items }
     ensures proper { IsProper (length desks.old.items) (L.history result) }
+    ensures never_shut { NeverShut (L.history result) }
 {
     let mut at = desks.len() - 1;
     let mut all = end_last(desks, at);

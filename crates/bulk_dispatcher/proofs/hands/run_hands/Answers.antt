@@ -4,6 +4,7 @@ use Rattle.std.specs.List.Sorted.{IsPermutation}
 use Rattle.std.proofs.lemmas.List.{length-map, map-append}
 use Rattle.std.proofs.lemmas.List.Elements.{All-from_recursion, All-weaker, All-same, All-push, All-map}
 use Rattle.bq_model.specs.declared.group.Group.{Group}
+use Rattle.bq_model.specs.NoShut.{NeverShut}
 use Rattle.bq_model.specs.Proper.{IsProper}
 use Rattle.bq_model.specs.Grows.{SawMore}
 use Rattle.job_lanes.specs.Seats.{seat, IsForHands}
@@ -132,6 +133,7 @@ unreachable-requires-then-stopped g c =
     let as_many : length books ≡ length numbers = length-map c.close-books.result.items lane.history ∙ closed.one_each ∙ made.lanes ∙ ap length (c.deref.ensures.value ∙ sym c.deref-2.ensures.value) in
     let proper : All (λ book. IsProper (hands + 1) book) books = All-map (λ book. IsProper (hands + 1) book) lane.history c.close-books.result.items
     (subst (λ (k : ℕ). All (λ book. IsProper k (lane.history book)) c.close-books.result.items) all_count closed.proper) in
+    let never : All NeverShut books = All-map NeverShut lane.history c.close-books.result.items closed.never_shut in
     let begun : AllZip (λ n row. AllZip (SawMore n) row books) (range_with_len 0 (length all_rows)) all_rows =
     subst (λ (k : ℕ). AllZip (λ n row. AllZip (SawMore n) row books) (range_with_len 0 k) all_rows) (sym (length-map c.push.new.self.items (λ desk. map (λ s. lane.seen s.pass) desk.sessions.items)))
     (begun_rows (λ desk. desk.sessions.items) (λ s. lane.seen s.pass) lane.history (range_with_len 0 (length c.push.new.self.items)) c.push.new.self.items c.close-books.result.items closed.begun) in
@@ -140,7 +142,7 @@ unreachable-requires-then-stopped g c =
     ∙ ap (λ (rs : List (List (List Group))). rs ++ own ∷ []) (map_twice (λ desk. map (λ s. lane.seen s.pass) desk.sessions.items) (λ run. run.desk) runs) in
     let works = zip_weaker _ _ (λ n run h. h.2) (range_with_len 0 (length runs)) runs ran in
     let stays = none_stopped (λ run. map (λ s. lane.seen s.pass) run.desk.sessions.items) (λ run. run.replies.items) (λ run. run.work) numbers file hands batch runs own books
-    (record { some = omega (arith, c.requires.hands.0); file_is = c.count-count.ensures.ranges; many = many; ran = works; rows = all_rows; rows_are = seen_rows; own_unseen = none; as_many = as_many; proper = proper; begun = begun }) in
+    (record { some = omega (arith, c.requires.hands.0); file_is = c.count-count.ensures.ranges; many = many; ran = works; rows = all_rows; rows_are = seen_rows; own_unseen = none; as_many = as_many; proper = proper; never_shut = never; begun = begun }) in
     cc (sym c.if-stopped.true ∙ c.any_stopped-stopped.ensures ∙ ap (list_any (λ run. has_stopped run.work)) c.deref-3.ensures.value ∙ stays)
 
 pub returns : goal.returns
@@ -175,6 +177,7 @@ returns g c =
     let as_many : length books ≡ length numbers = length-map c.close-books.result.items lane.history ∙ closed.one_each ∙ made.lanes ∙ ap length (c.deref.ensures.value ∙ sym c.deref-2.ensures.value) in
     let proper : All (λ book. IsProper (hands + 1) book) books = All-map (λ book. IsProper (hands + 1) book) lane.history c.close-books.result.items
     (subst (λ (k : ℕ). All (λ book. IsProper k (lane.history book)) c.close-books.result.items) all_count closed.proper) in
+    let never : All NeverShut books = All-map NeverShut lane.history c.close-books.result.items closed.never_shut in
     let begun : AllZip (λ n row. AllZip (SawMore n) row books) (range_with_len 0 (length all_rows)) all_rows =
     subst (λ (k : ℕ). AllZip (λ n row. AllZip (SawMore n) row books) (range_with_len 0 k) all_rows) (sym (length-map c.push.new.self.items (λ desk. map (λ s. lane.seen s.pass) desk.sessions.items)))
     (begun_rows (λ desk. desk.sessions.items) (λ s. lane.seen s.pass) lane.history (range_with_len 0 (length c.push.new.self.items)) c.push.new.self.items c.close-books.result.items closed.begun) in
@@ -183,7 +186,7 @@ returns g c =
     ∙ ap (λ (rs : List (List (List Group))). rs ++ own ∷ []) (map_twice (λ desk. map (λ s. lane.seen s.pass) desk.sessions.items) (λ run. run.desk) runs) in
     let works = zip_weaker _ _ (λ n run h. h.2) (range_with_len 0 (length runs)) runs ran in
     let stays = none_stopped (λ run. map (λ s. lane.seen s.pass) run.desk.sessions.items) (λ run. run.replies.items) (λ run. run.work) numbers file hands batch runs own books
-    (record { some = omega (arith, c.requires.hands.0); file_is = c.count-count.ensures.ranges; many = many; ran = works; rows = all_rows; rows_are = seen_rows; own_unseen = none; as_many = as_many; proper = proper; begun = begun }) in
+    (record { some = omega (arith, c.requires.hands.0); file_is = c.count-count.ensures.ranges; many = many; ran = works; rows = all_rows; rows_are = seen_rows; own_unseen = none; as_many = as_many; proper = proper; never_shut = never; begun = begun }) in
     let all_ran = ran_of (λ n run. HandRan numbers file hands batch n (map (λ s. lane.seen s.pass) run.desk.sessions.items) run.replies.items) (λ n run. HandStopped numbers file hands n (map (λ s. lane.seen s.pass) run.desk.sessions.items)) (λ run. run.work) 0 runs works stays in
     let did : AllZip (λ n r. HandRan numbers file hands batch n r.seen r.replies) (range_with_len 0 (length rows)) rows =
     subst (λ (k : ℕ). AllZip (λ n (r : Run). HandRan numbers file hands batch n r.seen r.replies) (range_with_len 0 k) rows) (sym row_count)
@@ -191,6 +194,6 @@ returns g c =
     let moved : IsPermutation (flat_map (λ (r : Run). r.replies) rows) c.sort_replies.new.replies.items =
     subst (λ (rs : List Reply). IsPermutation rs c.sort_replies.new.replies.items) (c.in_ok-desks.ensures.replies ∙ sym (pieces_mapped (λ run. record { seen = map (λ s. lane.seen s.pass) run.desk.sessions.items; replies = run.replies.items }) (λ (r : Run). r.replies) runs)) c.sort_replies.ensures.moved in
     let end : IsFinished file hands batch books c.sort_replies.new.replies.items =
-    finished numbers file hands batch rows all_rows own books c.sort_replies.new.replies.items (omega (arith, c.requires.hands.0)) c.count-count.ensures.ranges numbers_are (row_count ∙ many) did rows_are none as_many proper begun moved c.sort_replies.ensures.order in
+    finished numbers file hands batch rows all_rows own books c.sort_replies.new.replies.items (omega (arith, c.requires.hands.0)) c.count-count.ensures.ranges numbers_are (row_count ∙ many) did rows_are none as_many proper never begun moved c.sort_replies.ensures.order in
     let shown = as_shown file hands batch lane.history c.close-books.result.items c.from-2.result c.sort_replies.new.replies.items c.from.result c.from-2.ensures c.from.ensures end in
     record { books_fit = shown.books_fit; replies_fit = shown.replies_fit; dealt_in_turn = shown.dealt_in_turn; ended = shown.ended; lines = shown.lines }

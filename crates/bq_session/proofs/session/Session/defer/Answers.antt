@@ -1,4 +1,6 @@
-use Rattle.std.proofs.Common.{arith, ap, sym, ◌∙◌, ◌≡◌, ◌+◌, length, length-append, [], ◌∷◌}
+use Rattle.std.proofs.Common.{arith, ap, sym, subst, ◌∙◌, ◌≡◌, ◌+◌, length, length-append, [], ◌∷◌}
+use Rattle.bq_model.specs.NoShut.{NoShut}
+use Rattle.bq_model.proofs.NoShuts.{NoShut-push}
 use Rattle.bq_session.specs.Futures.{LiveFutures}
 use Rattle.bq_session.proofs.Kept.{KeepsAnswers-issued}
 use Rattle.bq_session.proofs.session.Session.defer.Goals as goal
@@ -16,6 +18,7 @@ invariant_of-self g c =
       not_too_long = omega (arith, w.not_too_long, batch);
       room = c.push.ensures.capacity_stays ∙ w.room ∙ sym batch;
       room_for_answers = w.room_for_answers ∙ sym batch;
+      no_shut = subst NoShut (sym c.push.ensures.appended) (NoShut-push c.self.inside.pending.items c.args.op w.no_shut c.requires);
       as_many = omega (arith, waits, more, w.as_many);
       fits = omega (arith, more, w.fits, batch, c.len.ensures.items, c.batch.ensures, c.if-len-batch.false);
       keeps = KeepsAnswers-issued _ c.issue.result c.self.inside.futures c.issue.new.self e w.keeps;

@@ -24,7 +24,7 @@ pub invariant_of-self-2 : goal.invariant_of-self-2
 invariant_of-self-2 g c =
     let e = c.in_ok-make_group.ensures in
     let enough : c.self.inside.futures.waiting ≤ length c.self.inside.pending.items = (let h = c.self.invariant.as_many in omega arith) in
-    IsWhole-made _ _ _ _ _ _ _ _ _ _ _ _ c.self.inside.pending.items c.in_ok-make_group.field-0 c.self.invariant e.pass_stays.2 (ap (λ s. s.batch) e.pass_stays.1) e.ok e.places enough e.first
+    IsWhole-made _ _ _ _ _ _ _ _ _ _ _ _ c.self.inside.pending.items c.in_ok-make_group.field-0 c.self.invariant e.pass_stays.2 (ap (λ s. s.batch) e.pass_stays.1) e.ok e.none_refused e.places enough e.first
     c.clear.ensures.empty c.clear.ensures.capacity_stays e.capacity_stays e.settled
 
 pub returns-clause-keeps : goal.returns-clause-keeps

@@ -1,8 +1,13 @@
 use Rattle.std.proofs.Common.{arith, ap, sym, subst, ◌∙◌, ◌≡◌, ℕ, ◌+◌, ◌-◌, ◌<◌, ◌≤◌, List, [], ◌∷◌, ◌++◌, length, length-append, IsErrOf, Err}
+use Rattle.std.proofs.lemmas.Option.{get_or_from_slice_get}
 use Rattle.bq_model.specs.declared.op.Op.{Op}
+use Rattle.bq_model.specs.declared.op.Answer.TheVariants.{Done}
 use Rattle.bq_model.specs.Grows.{AtSomePoint}
+use Rattle.bq_model.specs.NoShut.{NoShut}
 use Rattle.bq_model.specs.Rooms.{PassesAllowance, PassesRoom}
 use Rattle.bq_model.specs.Values.{enqueued}
+use Rattle.bq_model.proofs.NoShuts.{NoShut-push}
+use Rattle.bq_model.proofs.OpenQueues.{accepted-at}
 use Rattle.bq_session.specs.declared.claim.Outcome.{Outcome}
 use Rattle.bq_session.specs.declared.error.PlainFault.TheVariants as fault
 use Rattle.bq_session.specs.Faults.{plain_fault}
@@ -15,6 +20,15 @@ use Rattle.bq_session.proofs.Evaluated.{IsMadeWith-made, ClaimsOwn-with}
 use Rattle.bq_session.proofs.Faults.{spent_is, full_is, never_batch_full, popped, fault_is}
 use Rattle.bq_session.proofs.session.Session.make_with.Goals as goal
 
+pub make_group-made-requires-clause-no_shut : goal.make_group-made-requires-clause-no_shut
+make_group-made-requires-clause-no_shut g c κs within = subst NoShut (sym c.push.ensures.appended) (NoShut-push c.self.inside.pending.items c.args.op c.self.invariant.no_shut c.requires.no_shut)
+
+pub new-requires : goal.new-requires
+new-requires g c = λ refused.
+    let answers = c.make_group-made.new.answers.items in
+    let place = c.len-place.result - 1 in
+    accepted-at answers place c.in-Ok.ensures.none_refused (get_or_from_slice_get answers place c.get.result Done c.get.ensures ∙ refused)
+
 pub get-requires : goal.get-requires
 get-requires g c =
     let more = ap length c.push.ensures.appended ∙ length-append c.self.inside.pending.items (c.args.op ∷ []) in
@@ -26,7 +40,7 @@ invariant_of-self g c =
     let e = c.in-Ok.ensures in
     let more : length c.push.new.self.items ≡ length c.self.inside.pending.items + 1 = ap length c.push.ensures.appended ∙ length-append c.self.inside.pending.items (c.args.op ∷ []) in
     let enough : c.self.inside.futures.waiting ≤ length c.push.new.self.items = (let h = c.self.invariant.as_many in omega arith) in
-    IsWhole-made _ _ _ _ _ _ _ _ _ _ _ _ c.push.new.self.items c.in-Ok.first c.self.invariant e.pass_stays.2 (ap (λ s. s.batch) e.pass_stays.1) e.ok e.places enough e.first
+    IsWhole-made _ _ _ _ _ _ _ _ _ _ _ _ c.push.new.self.items c.in-Ok.first c.self.invariant e.pass_stays.2 (ap (λ s. s.batch) e.pass_stays.1) e.ok e.none_refused e.places enough e.first
     c.clear.ensures.empty (c.clear.ensures.capacity_stays ∙ c.push.ensures.capacity_stays) e.capacity_stays e.settled
 
 pub invariant_of-self-in-Err : goal.invariant_of-self-in-Err

@@ -14,6 +14,7 @@ invariant_of-self g c =
       not_too_long = rw c.spend.ensures.spent w.not_too_long;
       room = rw c.spend.ensures.spent w.room;
       room_for_answers = rw c.spend.ensures.spent w.room_for_answers;
+      no_shut = w.no_shut;
       as_many = rw c.spend.ensures.spent w.as_many;
       fits = rw c.spend.ensures.spent w.fits;
       keeps = rw c.spend.ensures.spent (KeepsAnswers-spent _ c.self.inside.futures c.args.ticket _ c.spend.ensures.stood w.keeps);

@@ -1,4 +1,6 @@
-use Rattle.std.proofs.Common.{arith, ap, sym, ◌∙◌, ◌≡◌, ◌+◌, length, length-append, [], ◌∷◌}
+use Rattle.std.proofs.Common.{arith, ap, sym, subst, ◌∙◌, ◌≡◌, ◌+◌, length, length-append, [], ◌∷◌}
+use Rattle.bq_model.specs.NoShut.{NoShut}
+use Rattle.bq_model.proofs.NoShuts.{NoShut-front}
 use Rattle.bq_session.specs.Futures.{LiveFutures}
 use Rattle.bq_session.proofs.Kept.{KeepsAnswers-withdrawn}
 use Rattle.bq_session.proofs.session.Session.withdraw_last.Goals as goal
@@ -16,6 +18,7 @@ invariant_of-self-2 g c =
       not_too_long = omega (arith, w.not_too_long, batch);
       room = c.in_ok-op.ensures.capacity_stays ∙ w.room ∙ sym batch;
       room_for_answers = w.room_for_answers ∙ sym batch;
+      no_shut = NoShut-front c.pop.new.self.items (c.in_ok-op.op ∷ []) (subst NoShut c.in_ok-op.ensures.last w.no_shut);
       as_many = omega (arith, waits, fewer, w.as_many);
       fits = omega (arith, fewer, w.fits, batch);
       keeps = rw e.withdrawn (KeepsAnswers-withdrawn _ c.self.inside.futures w.keeps);

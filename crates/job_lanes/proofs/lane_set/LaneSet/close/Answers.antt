@@ -1,6 +1,7 @@
 use Rattle.std.proofs.Common.{◌≡◌, ℕ, [], ◌∷◌, Some, length, map, sym, ap, subst, ◌∙◌, arith, length-append}
 use Rattle.std.proofs.lemmas.List.Elements.{All-push, All-pop, All-nil, All-same}
 use Rattle.bq_model.specs.Grows.{SawMore}
+use Rattle.bq_model.specs.NoShut.{NeverShut}
 use Rattle.bq_model.specs.Proper.{IsProper}
 use Rattle.job_lanes.specs.Seats.{seat}
 use Rattle.job_lanes.proofs.Rounds.{gone-none, gone-more, gone-all, each_itself, each_then, each-length, zip_and, zip_weaker, zip_along, zip_back, ends_like, ends_and, map_shorter, all_shorter, nothing_left, seats_end, zip_count, zip_books, nothing_in, All-reverse}
@@ -12,6 +13,7 @@ loop-lane-init g c = record {
   seated = zip_and _ _ _ _ c.requires.seats c.requires.nothing_pending;
   gone = each_itself _ 0 c.args.desks.items (λ k x. gone-none c.args.self.books.items x.sessions.items c.args.self.no_book);
   proper = All-same (λ book. IsProper (length c.args.desks.items) (g.L.Lane.history book)) c.args.self.books.items [] c.args.self.no_book (All-nil _);
+  never_shut = All-same (λ book. NeverShut (g.L.Lane.history book)) c.args.self.books.items [] c.args.self.no_book (All-nil _);
   room = omega (arith, c.args.self.room_for_books, c.args.self.books.ok, ap length c.args.self.no_book);
   one_each = omega (arith, ap length c.args.self.no_book);
 }
@@ -55,6 +57,8 @@ loop-lane-preserved g c =
       proper = All-same (λ book. IsProper (length c.args.desks.items) (lane.history book)) _ _ c.push_reserved.ensures.items
           (All-push (λ book. IsProper (length c.args.desks.items) (lane.history book)) c.loop-lane.books.items c.close_last.result kept.proper
           (subst (λ (n : ℕ). IsProper n (lane.history c.close_last.result)) count c.close_last.ensures.proper));
+      never_shut = All-same (λ book. NeverShut (lane.history book)) _ _ c.push_reserved.ensures.items
+          (All-push (λ book. NeverShut (lane.history book)) c.loop-lane.books.items c.close_last.result kept.never_shut c.close_last.ensures.never_shut);
       room = omega (arith, c.in-Some.ensures.len, c.push_reserved.ensures.len, c.push_reserved.ensures.capacity, kept.room);
       one_each = omega (arith, fewer, more, kept.one_each);
     }
@@ -62,6 +66,10 @@ loop-lane-preserved g c =
 pub returns-clause-proper : goal.returns-clause-proper
 returns-clause-proper g c =
     All-same (λ book. IsProper (length c.args.desks.items) (g.L.Lane.history book)) _ _ c.reverse.ensures.items (All-reverse (λ book. IsProper (length c.args.desks.items) (g.L.Lane.history book)) c.loop-lane.books.items c.loop-lane.invariant.proper)
+
+pub returns-clause-never_shut : goal.returns-clause-never_shut
+returns-clause-never_shut g c =
+    All-same (λ book. NeverShut (g.L.Lane.history book)) _ _ c.reverse.ensures.items (All-reverse (λ book. NeverShut (g.L.Lane.history book)) c.loop-lane.books.items c.loop-lane.invariant.never_shut)
 
 pub returns-clause-begun : goal.returns-clause-begun
 returns-clause-begun g c =

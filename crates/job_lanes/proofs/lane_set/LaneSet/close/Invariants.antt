@@ -1,6 +1,7 @@
 use Rattle.std.proofs.Common.{◌≡◌, ◌≤◌, ◌+◌, ◌∷◌, [], length, map, All, vec_len, vec_capacity}
 use Rattle.std.specs.List.{range_with_len, AllZip}
 use Rattle.bq_model.specs.Grows.{SawMore}
+use Rattle.bq_model.specs.NoShut.{NeverShut}
 use Rattle.bq_model.specs.Proper.{IsProper}
 use Rattle.job_lanes.specs.Seats.{seat}
 use Rattle.job_lanes.specs.Rows.{AtEach}
@@ -19,6 +20,7 @@ invariant-loop-lane g l =
           (range_with_len 0 (length l.fn.desks.items)) l.desks.items;
       gone : AtEach (λ c old now. Gone (λ s book. SawMore c (lane.seen s.pass) (lane.history book)) l.books.items old.sessions.items now.sessions.items) 0 l.fn.desks.items l.desks.items;
       proper : All (λ book. IsProper (length l.fn.desks.items) (lane.history book)) l.books.items;
+      never_shut : All (λ book. NeverShut (lane.history book)) l.books.items;
       room : vec_len l.lanes + vec_len l.books ≤ vec_capacity l.books;
       one_each : length l.lanes.items + length l.books.items ≡ length l.fn.self.lanes.items;
     }
