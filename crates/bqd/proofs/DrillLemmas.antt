@@ -12,7 +12,7 @@ use Rattle.bqd.specs.declared.command.Command.TheVariants.{Run, Drill}
 use Rattle.bqd.specs.declared.status.Status.{Status}
 use Rattle.bqd.specs.declared.status.Status.TheVariants.{Done, Illegal, Usage, Refused, ReadFailed, WriteFailed, OutOfMemory}
 use Rattle.bqd.specs.DrillLine.{drill_text, drill_line}
-use Rattle.bqd.specs.Streams.{Change, IsUntouched}
+use Rattle.byte_streams.specs.Streams.{Change, IsUntouched}
 use Rattle.bqd.specs.Causes.{IsExplained}
 use Rattle.bulk_dispatcher.specs.Ran.{JobsRan}
 use Rattle.bqd.specs.Runs.{IsDrill, WritesDue, EndsWithCause, drill_call}

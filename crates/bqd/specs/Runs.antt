@@ -12,9 +12,9 @@ use Rattle.bqd.specs.declared.command.Command.TheVariants.{Run, Drill}
 use Rattle.bqd.specs.declared.status.Status.{Status}
 use Rattle.bqd.specs.declared.status.Status.TheVariants.{Done, Illegal, Usage, Refused, ReadFailed, WriteFailed, OutOfMemory}
 use Rattle.bqd.specs.DrillLine.{drill_line}
-use Rattle.bqd.specs.Output.{WroteFront}
+use Rattle.byte_streams.specs.Output.{WroteFront}
 use Rattle.bqd.specs.Status.{number_of}
-use Rattle.bqd.specs.Streams.{Change, IsUntouched, IsFaulty}
+use Rattle.byte_streams.specs.Streams.{Change, IsUntouched, IsFaulty}
 use Rattle.bqd.specs.Causes.{Call, IsExplained}
 
 -- The jobs of these bytes were run, and their replies are written.
