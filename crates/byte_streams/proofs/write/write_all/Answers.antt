@@ -1,6 +1,6 @@
 use Rattle.std.proofs.Common.{rules}
-use Rattle.bqd.proofs.Known.{Appends-take_more}
-use Rattle.bqd.proofs.output.write_all.Goals as goal
+use Rattle.byte_streams.proofs.Known.{Appends-take_more}
+use Rattle.byte_streams.proofs.write.write_all.Goals as goal
 
 pub loop-sent-preserved : goal.loop-sent-preserved
 loop-sent-preserved g c = record {

@@ -1,6 +1,6 @@
 use Rattle.std.proofs.Common.{◌≡◌, ◌-◌, ◌≤◌, length, take, is_some}
 use Rattle.std.specs.Io.KnownBytes.{Appends}
-use Rattle.bqd.proofs.output.write_all.Given as goal
+use Rattle.byte_streams.proofs.write.write_all.Given as goal
 
 abbrev pub invariant-loop-sent : goal.invariant-loop-sent
 invariant-loop-sent g l = record {

@@ -1,7 +1,7 @@
 -- What a call did to a stream.
 use Rattle.std.specs.Prelude.{◌≡◌, ℕ, List, Option}
 use Rattle.bq_model.specs.Device.{Rose}
-use Rattle.bqd.specs.Output.{WroteFront}
+use Rattle.byte_streams.specs.Output.{WroteFront}
 
 -- The bytes of a stream, where it tells them, and the count of its faults, before a call and after it. The bytes of a
 -- source are those that it has left, the bytes of a sink those that were written.
