@@ -3,7 +3,8 @@ ghost use Rattle.std.specs.Prelude.{◌≡◌, ◌≤◌, map, IfOk};
 ghost use Rattle.job_text.specs.Generator.{gen_of};
 ghost use Rattle.bqd.specs.DrillLine.{drill_line};
 ghost use Rattle.bqd.specs.Streams.{change};
-ghost use Rattle.bqd.specs.Runs.{JobsRan, WritesDue};
+ghost use Rattle.bulk_dispatcher.specs.Ran.{JobsRan};
+ghost use Rattle.bqd.specs.Runs.{WritesDue};
 
 use crate::drill_line::{ROOM, drill_line};
 use crate::jobs::run_jobs;

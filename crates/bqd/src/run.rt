@@ -2,7 +2,8 @@
 ghost use Rattle.std.specs.Prelude.{◌≤◌, map, IfOk};
 ghost use Rattle.job_text.specs.Replies.{replies_of};
 ghost use Rattle.bqd.specs.Streams.{change};
-ghost use Rattle.bqd.specs.Runs.{JobsRan, IsRun, WritesDue, EndsWithCause, run_call};
+ghost use Rattle.bulk_dispatcher.specs.Ran.{JobsRan};
+ghost use Rattle.bqd.specs.Runs.{IsRun, WritesDue, EndsWithCause, run_call};
 
 use crate::file::{FileFault, read_file};
 use crate::jobs::run_jobs;
