@@ -41,7 +41,7 @@ impl Model for JobFile {
 
 impl JobFile {
     /// The file of these units.
-    pub(crate) fn new(alloc: Global, units: Vec<Unit>) -> Result<Self, OutOfMemory>
+    pub fn new(alloc: Global, units: Vec<Unit>) -> Result<Self, OutOfMemory>
         requires { IsJobFile units.items }
         ensures { IfOk result (λ file. file ≡ units.items) }
     {

@@ -24,6 +24,7 @@ mod tests;
 
 pub use file::{JobFile, Unit};
 pub use generator::generated;
+pub use job_words::{read_lane, read_texts};
 pub use laws::{
     first_cause_of_a_line_is_named, first_faulty_line_is_named, longer_texts_are_alike,
     made_up_file_has_each_job, printed_file_is_read_back,
