@@ -2,7 +2,7 @@
 use Rattle.std.proofs.Common.{◌≡◌, false, ℕ, Option, None, Some, IfSome, refl, sym, ◌∙◌, arith, inl, inr}
 use Rattle.std.proofs.lemmas.Bool.{true≢false}
 use Rattle.bqd.specs.Command.{reads}
-use Rattle.bqd.specs.Streams.{IsUntouched}
+use Rattle.byte_streams.specs.Streams.{IsUntouched}
 use Rattle.bqd.specs.Causes.{Call, ReadsInput, IsTold, IsDone, IsIllegal, IsUsage, IsRefused, IsReadFailure, IsWriteFailure, IsOutOfMemory, DueComes, IsExplained, due_in}
 
 -- ---- what is said of something that is known

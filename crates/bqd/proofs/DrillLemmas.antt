@@ -12,9 +12,10 @@ use Rattle.bqd.specs.declared.command.Command.TheVariants.{Run, Drill}
 use Rattle.bqd.specs.declared.status.Status.{Status}
 use Rattle.bqd.specs.declared.status.Status.TheVariants.{Done, Illegal, Usage, Refused, ReadFailed, WriteFailed, OutOfMemory}
 use Rattle.bqd.specs.DrillLine.{drill_text, drill_line}
-use Rattle.bqd.specs.Streams.{Change, IsUntouched}
+use Rattle.byte_streams.specs.Streams.{Change, IsUntouched}
 use Rattle.bqd.specs.Causes.{IsExplained}
-use Rattle.bqd.specs.Runs.{JobsRan, IsDrill, WritesDue, EndsWithCause, drill_call}
+use Rattle.bulk_dispatcher.specs.Ran.{JobsRan}
+use Rattle.bqd.specs.Runs.{IsDrill, WritesDue, EndsWithCause, drill_call}
 use Rattle.bqd.proofs.CauseLemmas.{explained-done, explained-write, explained-memory}
 
 -- the line of what a drill leaves is that of its jobs

@@ -1,5 +1,4 @@
 -- Lemmas on the definitions of specs/, in files named for their topics.
-pub mod Known
 pub mod InputLemmas
 pub mod CauseLemmas
 pub mod TextLemmas

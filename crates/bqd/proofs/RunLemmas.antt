@@ -14,10 +14,11 @@ use Rattle.bqd.specs.declared.status.Status.{Status}
 use Rattle.bqd.specs.declared.status.Status.TheVariants.{Done, Illegal, Usage, Refused, ReadFailed, WriteFailed, OutOfMemory}
 use Rattle.bqd.specs.Status.{number_of}
 use Rattle.bqd.specs.Line.{fault_text}
-use Rattle.bqd.specs.Streams.{Change, IsUntouched, IsFaulty}
+use Rattle.byte_streams.specs.Streams.{Change, IsUntouched, IsFaulty}
 use Rattle.bqd.specs.Due.{Due, due_of_file}
 use Rattle.bqd.specs.Causes.{IsExplained}
-use Rattle.bqd.specs.Runs.{JobsRan, AreRun, IsRun, WritesDue, EndsWithCause, run_call}
+use Rattle.bulk_dispatcher.specs.Ran.{JobsRan}
+use Rattle.bqd.specs.Runs.{AreRun, IsRun, WritesDue, EndsWithCause, run_call}
 use Rattle.bqd.proofs.CauseLemmas.{explained-read, explained-memory, untouched}
 use Rattle.bqd.proofs.TextLemmas.{Tells, ends-told, ends-refused}
 

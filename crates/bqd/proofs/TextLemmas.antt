@@ -21,8 +21,8 @@ use Rattle.bqd.specs.declared.status.Status.{Status}
 use Rattle.bqd.specs.declared.status.Status.TheVariants.{Done, Illegal as StatusIllegal, Usage, Refused, ReadFailed, WriteFailed, OutOfMemory}
 use Rattle.bqd.specs.Command.{reads, checks}
 use Rattle.bqd.specs.Line.{fault_text}
-use Rattle.bqd.specs.Output.{WroteFront}
-use Rattle.bqd.specs.Streams.{Change, IsUntouched, IsFaulty}
+use Rattle.byte_streams.specs.Output.{WroteFront}
+use Rattle.byte_streams.specs.Streams.{Change, IsUntouched, IsFaulty}
 use Rattle.bqd.specs.Status.{number_of}
 use Rattle.bqd.specs.VerdictLine.{verdict_text}
 use Rattle.bqd.specs.Due.{Due, due_of, due_of_history, due_of_schedule, verdict_status}

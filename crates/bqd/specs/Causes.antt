@@ -7,7 +7,7 @@ use Rattle.text_lines.specs.Reading.{most_bytes}
 use Rattle.bqd.specs.declared.command.Command.{Command}
 use Rattle.bqd.specs.Command.{command_in, reads, checks}
 use Rattle.bqd.specs.Due.{Due, due_of}
-use Rattle.bqd.specs.Streams.{Change, IsUntouched, IsFaulty, FailsAt}
+use Rattle.byte_streams.specs.Streams.{Change, IsUntouched, IsFaulty, FailsAt}
 
 -- a call of the program: the command that its words are, if they are one, and what it did to its streams
 pub record Call : Type 0 where

@@ -4,8 +4,6 @@ pub mod Usage
 pub mod Line
 pub mod VerdictLine
 pub mod DrillLine
-pub mod Output
-pub mod Streams
 pub mod Due
 pub mod Causes
 pub mod Status

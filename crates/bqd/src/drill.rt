@@ -2,16 +2,17 @@
 ghost use Rattle.std.specs.Prelude.{◌≡◌, ◌≤◌, map, IfOk};
 ghost use Rattle.job_text.specs.Generator.{gen_of};
 ghost use Rattle.bqd.specs.DrillLine.{drill_line};
-ghost use Rattle.bqd.specs.Streams.{change};
-ghost use Rattle.bqd.specs.Runs.{JobsRan, WritesDue};
+ghost use Rattle.byte_streams.specs.Streams.{change};
+ghost use Rattle.bulk_dispatcher.specs.Ran.{JobsRan};
+ghost use Rattle.bqd.specs.Runs.{WritesDue};
 
 use crate::drill_line::{ROOM, drill_line};
 use crate::jobs::run_jobs;
-use crate::output::write_all;
 use crate::status::Status;
 use arrayvec::ArrayString;
 use bq_model::{Failed, Lane, OutOfMemory, Sink};
 use bulk_dispatcher::{Done, Gate};
+use byte_streams::write_all;
 use job_text::generated;
 use std::alloc::Global;
 use std::thread::Threads;

@@ -6,8 +6,9 @@ ghost use Rattle.text_lines.specs.Reading.{most_bytes};
 ghost use Rattle.job_text.specs.Grammar.{jobs_of};
 ghost use Rattle.bq_model.specs.declared.fault.TextFault.{TextFault};
 
-use crate::input::{InputFault, read_input};
+use crate::input::read_input;
 use bq_model::{Source, TextFault, TextRefused};
+use byte_streams::InputFault;
 use job_text::{JobFile, read_jobs};
 use std::alloc::Global;
 

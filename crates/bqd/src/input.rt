@@ -1,46 +1,15 @@
 // All of a source's bytes, read in pieces.
-ghost use Rattle.std.specs.Prelude.{◌≡◌, ◌+◌, ◌<◌, ◌≤◌, [], length, vec_len, is_some, IfOk, OnErr, IsErrOf};
+ghost use Rattle.std.specs.Prelude.{◌≡◌, ◌+◌, ◌≤◌, vec_len, is_some, IfOk, IsErrOf};
 ghost use Rattle.std.specs.Io.KnownBytes.{Consumes, IsAtEnd};
 ghost use Rattle.bq_model.specs.Device.{Rose};
 ghost use Rattle.text_lines.specs.Reading.{most_bytes};
 
-use bq_model::{Failed, Source};
-use std::alloc::{AllocError, Global};
+use bq_model::Source;
+use byte_streams::{InputFault, PIECE, read_piece, zeros};
+use std::alloc::Global;
 
 /// One byte more than a text may have, so that a longer text is seen.
 pub const MAX_READ: usize = 16_777_217;
-
-/// How many bytes one read asks for.
-const PIECE: usize = 65_536;
-
-/// Why the input was not read.
-#[derive(Clone, Copy, Debug, PartialEq, Eq)]
-pub enum InputFault {
-    /// A read failed.
-    Failed,
-    /// Memory was lacking.
-    Memory,
-}
-
-impl From<Failed> for InputFault {
-    ghost use Rattle.bqd.specs.declared.input.InputFault.TheVariants.{Failed as ReadFailed};
-
-    ghost from_gives = { λ _ fault. fault ≡ ReadFailed };
-
-    fn from(_failed: Failed) -> Self {
-        InputFault::Failed
-    }
-}
-
-impl From<AllocError> for InputFault {
-    ghost use Rattle.bqd.specs.declared.input.InputFault.TheVariants.{Memory};
-
-    ghost from_gives = { λ _ fault. fault ≡ Memory };
-
-    fn from(_error: AllocError) -> Self {
-        InputFault::Memory
-    }
-}
 
 /// Reads up to the end of the source, or `MAX_READ` bytes of it where it has more. Each read asks for 65,536 bytes
 /// or for what is missing to `MAX_READ`, and takes a byte or more, or finds the end.
@@ -64,25 +33,4 @@ pub fn read_input<S: Source>(alloc: Global, source: &mut S) -> Result<Vec<u8>, I
         input.extend_from_slice(bytes)?;
     }
     Ok(input)
-}
-
-/// As many zeros, a buffer to read into.
-fn zeros(alloc: Global, len: usize) -> Result<Vec<u8>, AllocError>
-    ensures { IfOk result (λ buffer. vec_len buffer ≡ len) }
-{
-    vec![in alloc; 0u8; len]
-}
-
-/// Reads once, and gives what came. It is empty only at the end of the source.
-fn read_piece<'a, S: Source>(source: &mut S, piece: &'a mut [u8]) -> Result<&'a [u8], Failed>
-    requires { 0 < length piece.old }
-    ensures consumed { IfOk result (λ bytes. Consumes (S.left source.old) (S.left source.new) bytes.now) }
-    ensures fits { IfOk result (λ bytes. length bytes.now ≤ length piece.old) }
-    ensures empty_at_end { IfOk result (λ bytes. bytes.now ≡ [] → IsAtEnd (S.left source.new)) }
-    ensures failed_is_counted { OnErr result (Rose (S.faults source.old) (S.faults source.new)) }
-    ensures told { is_some (S.left source.new) ≡ is_some (S.left source.old) }
-    ensures count_never_falls { S.faults source.old ≤ S.faults source.new }
-{
-    let n = source.read(piece)?;
-    Ok(&piece[..n])
 }

@@ -1,7 +1,7 @@
 // The jobs of a file are run, and their replies printed.
 ghost use Rattle.std.specs.Prelude.{◌≡◌, ◌≤◌, map, IfOk};
 ghost use Rattle.job_text.specs.Replies.{replies_of};
-ghost use Rattle.bqd.specs.Runs.{JobsRan};
+ghost use Rattle.bulk_dispatcher.specs.Ran.{JobsRan};
 
 use crate::replies::printed;
 use bq_model::{Lane, OutOfMemory, Text};

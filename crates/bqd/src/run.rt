@@ -1,16 +1,18 @@
 // The command that runs a job file, over any source and sinks.
 ghost use Rattle.std.specs.Prelude.{◌≤◌, map, IfOk};
 ghost use Rattle.job_text.specs.Replies.{replies_of};
-ghost use Rattle.bqd.specs.Streams.{change};
-ghost use Rattle.bqd.specs.Runs.{JobsRan, IsRun, WritesDue, EndsWithCause, run_call};
+ghost use Rattle.byte_streams.specs.Streams.{change};
+ghost use Rattle.bulk_dispatcher.specs.Ran.{JobsRan};
+ghost use Rattle.bqd.specs.Runs.{IsRun, WritesDue, EndsWithCause, run_call};
 
 use crate::file::{FileFault, read_file};
 use crate::jobs::run_jobs;
 use crate::line::fault_line;
-use crate::output::{tell, write_all};
+use crate::output::tell;
 use crate::status::Status;
 use bq_model::{Failed, Lane, Sink, Source};
 use bulk_dispatcher::{Done, Gate};
+use byte_streams::write_all;
 use job_text::JobFile;
 use std::alloc::Global;
 use std::thread::Threads;

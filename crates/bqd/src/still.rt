@@ -6,8 +6,8 @@ ghost use Rattle.bq_model.specs.Device.{Rose};
 ghost use Rattle.job_text.specs.Canon.{canon};
 ghost use Rattle.job_text.specs.Generator.{gen_of};
 ghost use Rattle.bqd.specs.Command.{command_in, runs, most_generated};
-ghost use Rattle.bqd.specs.Output.{WroteFront};
-ghost use Rattle.bqd.specs.Streams.{change};
+ghost use Rattle.byte_streams.specs.Output.{WroteFront};
+ghost use Rattle.byte_streams.specs.Streams.{change};
 ghost use Rattle.bqd.specs.Causes.{IsExplained, call};
 
 use crate::command::{Command, command_of};

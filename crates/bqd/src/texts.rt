@@ -4,14 +4,15 @@ ghost use Rattle.bqd.specs.declared.command.Command.{Command};
 ghost use Rattle.bqd.specs.Causes.{IsExplained};
 ghost use Rattle.bqd.specs.Due.{verdict_status};
 ghost use Rattle.bqd.specs.Status.{number_of};
-ghost use Rattle.bqd.specs.Streams.{change};
+ghost use Rattle.byte_streams.specs.Streams.{change};
 
-use crate::input::{InputFault, read_input};
+use crate::input::read_input;
 use crate::line::fault_line;
 use crate::output::tell;
 use crate::status::Status;
 use crate::verdict_line::verdict_line;
 use bq_model::{Sink, Source, TextRefused};
+use byte_streams::InputFault;
 use std::alloc::Global;
 use trace_text::{Verdict, check_history, play_schedule};
 

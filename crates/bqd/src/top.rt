@@ -3,7 +3,7 @@ ghost use Rattle.std.specs.Prelude.{◌≡◌, ◌≢◌, false, ℕ, ◌⊎◌,
 ghost use Rattle.std.specs.String.{string_bytes};
 ghost use Rattle.bqd.specs.declared.command.Command.{Command};
 ghost use Rattle.bqd.specs.Command.{command_in, runs};
-ghost use Rattle.bqd.specs.Streams.{change};
+ghost use Rattle.byte_streams.specs.Streams.{change};
 ghost use Rattle.bqd.specs.Causes.{IsExplained, call};
 ghost use Rattle.bqd.specs.Runs.{IsRun, IsDrill};
 

@@ -1,12 +1,10 @@
 // The run of a file's jobs by hands beside each other.
-ghost use Rattle.std.specs.Prelude.{◌≡◌, ◌≤◌, ◌<◌, ◌+◌, ◌%◌, ◌==◌, ◌++◌, ◌∷◌, [], ℕ, List, map, All, IfOk, OnOk, if◌then◌else◌};
-ghost use Rattle.std.specs.List.{flat_map, AllZip, list_any};
+ghost use Rattle.std.specs.Prelude.{◌≡◌, ◌≤◌, ◌==◌, ◌++◌, ◌∷◌, [], map, IfOk, OnOk, if◌then◌else◌};
+ghost use Rattle.std.specs.List.{flat_map, list_any};
 ghost use Rattle.std.specs.List.Sorted.{IsPermutation, IsNonDecreasingBy};
 ghost use Rattle.job_text.specs.Replies.{reply_line, replies_of};
-ghost use Rattle.bq_model.specs.Own.{mine};
-ghost use Rattle.bulk_dispatcher.specs.Books.{BooksFit, StandTogether, lanes_of, units_on};
-ghost use Rattle.bulk_dispatcher.specs.Replies.{RepliesFit};
-ghost use Rattle.bulk_dispatcher.specs.Hands.{EndedEmpty};
+ghost use Rattle.bulk_dispatcher.specs.Books.{lanes_of};
+ghost use Rattle.bulk_dispatcher.specs.Ran.{JobsRan};
 ghost use Rattle.bulk_dispatcher.specs.Stops.{has_stopped};
 
 use crate::beside::run_beside;
@@ -103,13 +101,7 @@ pub fn run_hands<L: Lane, G: Gate, R: Threads + Sync>(
 ) -> Result<Done<L>, OutOfMemory>
     requires hands { (1 ≤ hands) × (hands ≤ 16) }
     requires batch { (1 ≤ batch) × (batch ≤ 256) }
-    ensures books_fit { IfOk result (λ done. BooksFit jobs.now (hands + 1) (map L.history done.books)) }
-    ensures replies_fit { IfOk result (λ done. RepliesFit jobs.now (map L.history done.books) done.replies) }
-
-    // The units are dealt to the hands in turn, and each hand ends on each lane where it finds nothing.
-    ensures dealt_in_turn { IfOk result (λ done. AllZip (λ lane book. All (λ unit. StandTogether (mine book (unit.place % hands)) unit.numbers) (units_on jobs.now lane))
-        (lanes_of jobs.now) (map L.history done.books)) }
-    ensures ended { IfOk result (λ done. AllZip (λ lane book. (c : ℕ) → c < hands → EndedEmpty batch c book) (lanes_of jobs.now) (map L.history done.books)) }
+    ensures ran { IfOk result (λ done. JobsRan jobs.now hands batch (map L.history done.books) done.replies) }
 
     // The lines of the replies, one after another, are the text that the file's jobs are replied with.
     ensures lines { IfOk result (λ done. flat_map (λ reply. reply_line reply.job reply.text) done.replies ≡ replies_of jobs.now) }

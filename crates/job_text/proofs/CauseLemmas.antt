@@ -21,12 +21,12 @@ use Rattle.job_text.specs.Grammar.{LinesSay, add_job, put_job, end_block, open_b
 use Rattle.job_text.specs.LineCauses.{word_causes, place_causes, count_causes, job_causes, block_causes, outside_causes, inside_causes, causes_in, applying}
 
 -- the place of a bad lane, behind which no cause of a lane or a job comes
-abbrev lane_place : ℕ
+abbrev pub lane_place : ℕ
 lane_place = rank BadLane
 
 -- ---- the causes of lanes and jobs come early
 
-IsEarly-lane_of_number : (found : Option ℕ) → IsEarly lane_place (lane_of_number found)
+pub IsEarly-lane_of_number : (found : Option ℕ) → IsEarly lane_place (lane_of_number found)
 IsEarly-lane_of_number None = omega arith
 IsEarly-lane_of_number (Some number) = IsEarly-if lane_place (nat_le number 15) (Ok number) (Err BadLane) tt (omega arith)
 
@@ -65,7 +65,7 @@ IsEarly-lane_job_of (lane ∷ job) = IsEarly-both lane_place (lane_of lane) (job
 
 -- ---- the causes of counts come late
 
-AreBehind-if : (place : ℕ) (cause : TextCause) (test : Bool) → place ≤ rank cause → AreBehind place (if test then cause ∷ [] else [])
+pub AreBehind-if : (place : ℕ) (cause : TextCause) (test : Bool) → place ≤ rank cause → AreBehind place (if test then cause ∷ [] else [])
 AreBehind-if place cause true late = All-cons (λ other. place ≤ rank other) cause [] late (All-nil (λ other. place ≤ rank other))
 AreBehind-if place cause false late = All-nil (λ other. place ≤ rank other)
 
@@ -75,7 +75,7 @@ AreBehind-put place in_block in_file late =
     (AreBehind-if place BlockTooLong (nat_le most_in_unit in_block) late) (AreBehind-if place TooMany (nat_le most_jobs in_file) (omega arith))
 
 -- one cause, where there is one
-names_if : {A : Type 0} (cause : TextCause) (taken : A) (test : Bool) → NamesFirst {A = A} (if test then cause ∷ [] else []) (if test then Err cause else Ok taken)
+pub names_if : {A : Type 0} (cause : TextCause) (taken : A) (test : Bool) → NamesFirst {A = A} (if test then cause ∷ [] else []) (if test then Err cause else Ok taken)
 names_if cause taken true = IsFirstCause-alone cause
 names_if cause taken false = refl
 

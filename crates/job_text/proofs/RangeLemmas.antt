@@ -29,7 +29,7 @@ use Rattle.job_text.specs.InProgress.{IsOpenBlock, IsInProgress}
 -- ---- cases
 
 -- a step behind another
-behind_ok : {A B E P : Type 0} (first : Result A E) (next : A → Result B E) (value : B) → (first >>= next) ≡ Ok value → ((found : A) → first ≡ Ok found → next found ≡ Ok value → P) → P
+pub behind_ok : {A B E P : Type 0} (first : Result A E) (next : A → Result B E) (value : B) → (first >>= next) ≡ Ok value → ((found : A) → first ≡ Ok found → next found ≡ Ok value → P) → P
 behind_ok (Ok found) next value is found_is = found_is found refl is
 behind_ok (Err error) next value is found_is = cc is
 
@@ -42,7 +42,7 @@ found_ok kind (Some x) job ranges is =
     let same : kind x ≡ job = cc is in
     subst IsInRange same (ranges x refl)
 
-lane_of_number-ok : (found : Option ℕ) (lane : ℕ) → lane_of_number found ≡ Ok lane → lane ≤ most_lane
+pub lane_of_number-ok : (found : Option ℕ) (lane : ℕ) → lane_of_number found ≡ Ok lane → lane ≤ most_lane
 lane_of_number-ok None lane is = cc is
 lane_of_number-ok (Some number) lane is =
     if_ok (nat_le number most_lane) (Ok number) _ lane is
@@ -79,7 +79,7 @@ within-some most number found is =
     let same = parts.1 in
     omega arith
 
-number_within-some : (most : ℕ) (word : List ℕ) (found : ℕ) → number_within 0 most word ≡ Some found → found ≤ most
+pub number_within-some : (most : ℕ) (word : List ℕ) (found : ℕ) → number_within 0 most word ≡ Some found → found ≤ most
 number_within-some most word found is =
     elim (number_of word) as (λ o. option_and_then (within 0 most) o ≡ Some found → found ≤ most) [
       | None ↦ λ is. cc is
@@ -112,7 +112,7 @@ job_of-ok : (words : List (List ℕ)) (job : Job) → All IsWord words → job_o
 job_of-ok [] job are is = cc is
 job_of-ok (kind ∷ arguments) job are is = job_of_kind-ok kind arguments job (All-tail IsWord kind arguments are) is
 
-both-ok : {A B P : Type 0} (one : Result A TextCause) (other : Result B TextCause) (pair : A × B) → both one other ≡ Ok pair → (one ≡ Ok pair.0 → other ≡ Ok pair.1 → P) → P
+pub both-ok : {A B P : Type 0} (one : Result A TextCause) (other : Result B TextCause) (pair : A × B) → both one other ≡ Ok pair → (one ≡ Ok pair.0 → other ≡ Ok pair.1 → P) → P
 both-ok (Ok a) (Ok b) pair is found =
     let same : (a, b) ≡ pair = cc is in
     found (ap (λ (p : _ × _). Ok p.0) same) (ap (λ (p : _ × _). Ok p.1) same)

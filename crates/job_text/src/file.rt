@@ -1,7 +1,9 @@
 // A file of jobs: its units, and beside them where each begins.
 ghost use Rattle.std.specs.Prelude.{◌≡◌, ◌≤◌, ◌<◌, ℕ, length, slice_index, option_map, IfOk, IsNone, ◌↔◌};
+ghost use Rattle.std.specs.Bool.{Decides};
 ghost use Rattle.job_text.specs.JobFile.{IsJobFile, job_count, job_at};
 
+use crate::same::are_same;
 use bq_model::{Items, OutOfMemory};
 use job_work::Job;
 use std::alloc::Global;
@@ -39,7 +41,7 @@ impl Model for JobFile {
 
 impl JobFile {
     /// The file of these units.
-    pub(crate) fn new(alloc: Global, units: Vec<Unit>) -> Result<Self, OutOfMemory>
+    pub fn new(alloc: Global, units: Vec<Unit>) -> Result<Self, OutOfMemory>
         requires { IsJobFile units.items }
         ensures { IfOk result (λ file. file ≡ units.items) }
     {
@@ -83,6 +85,13 @@ impl JobFile {
         let unit = &self.units[index];
         let place = number - self.starts[index];
         Some((unit.lane, &unit.jobs.as_slice()[place as usize]))
+    }
+
+    /// Whether the other file has the same units.
+    pub fn is_same(&self, other: &JobFile) -> bool
+        ensures { Decides result (self.now ≡ other.now) }
+    {
+        are_same(self.units(), other.units())
     }
 }
 

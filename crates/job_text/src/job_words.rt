@@ -55,7 +55,8 @@ pub(crate) fn read_only_lane(mut words: Words) -> Result<u32, TextCause>
     read_lane(word)
 }
 
-fn read_lane(word: &[u8]) -> Result<u32, TextCause>
+/// The lane that a word names.
+pub fn read_lane(word: &[u8]) -> Result<u32, TextCause>
     ensures { result ≡ lane_of word.now }
 {
     match number(word) {
@@ -179,11 +180,18 @@ fn read_mix(mut words: Words) -> Result<Job, LineRefused>
 fn read_words(alloc: Global, words: Words) -> Result<Job, LineRefused>
     ensures { ReadsPart (Ok (Job.Words words.entry)) result }
 {
+    Ok(Job::Words(read_texts(alloc, words)?))
+}
+
+/// The words themselves.
+pub fn read_texts(alloc: Global, words: Words) -> Result<Texts, OutOfMemory>
+    ensures { IfOk result (λ texts. texts ≡ words.entry) }
+{
     let mut texts = Texts::new(alloc);
     for word in words {
         let mut text = Text::new(alloc);
         text.append_parts(&[word])?;
         texts.push(text)?;
     }
-    Ok(Job::Words(texts))
+    Ok(texts)
 }

@@ -254,3 +254,24 @@ fn most_bytes_are_16777216(rt: HostRuntime) -> Result<(), Fail> {
     assert_fault(&rt, rt.alloc(), &text, 0, TextCause::TooLong);
     Ok(())
 }
+
+#[test]
+fn files_are_the_same_by_their_units(rt: HostRuntime) -> Result<(), Fail> {
+    let texts = [
+        b"bqjobs 1\n".as_slice(),
+        b"bqjobs 1\njob 0 words a b\n".as_slice(),
+        b"bqjobs 1\njob 0 words a\njob 0 words b\n".as_slice(),
+        b"bqjobs 1\njob 1 words a b\n".as_slice(),
+        b"bqjobs 1\njob 0 words b a\n".as_slice(),
+        b"bqjobs 1\njob 0 count 61 62\n".as_slice(),
+        b"bqjobs 1\njob 0 count 62 62\n".as_slice(),
+    ];
+    for (place, text) in texts.iter().enumerate() {
+        let file = read_jobs(rt.alloc(), text)?;
+        for (other_place, other) in texts.iter().enumerate() {
+            let same = file.is_same(&read_jobs(rt.alloc(), other)?);
+            assert_eq!(rt; same, place == other_place, "{place} and {other_place}");
+        }
+    }
+    Ok(())
+}

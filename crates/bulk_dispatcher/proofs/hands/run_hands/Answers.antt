@@ -196,4 +196,4 @@ returns g c =
     let end : IsFinished file hands batch books c.sort_replies.new.replies.items =
     finished numbers file hands batch rows all_rows own books c.sort_replies.new.replies.items (omega (arith, c.requires.hands.0)) c.count-count.ensures.ranges numbers_are (row_count ∙ many) did rows_are none as_many proper never begun moved c.sort_replies.ensures.order in
     let shown = as_shown file hands batch lane.history c.close-books.result.items c.from-2.result c.sort_replies.new.replies.items c.from.result c.from-2.ensures c.from.ensures end in
-    record { books_fit = shown.books_fit; replies_fit = shown.replies_fit; dealt_in_turn = shown.dealt_in_turn; ended = shown.ended; lines = shown.lines }
+    record { ran = record { books_fit = shown.books_fit; replies_fit = shown.replies_fit; dealt_in_turn = shown.dealt_in_turn; ended = shown.ended }; lines = shown.lines }

@@ -1,0 +1,2 @@
+-- Lemmas on the bytes of streams.
+pub mod Known

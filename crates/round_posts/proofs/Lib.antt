@@ -1,0 +1,2 @@
+-- That each step keeps the parker's rule.
+pub mod Keeps

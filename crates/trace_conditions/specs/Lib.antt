@@ -1,0 +1,3 @@
+-- Stamps, and the conditions on an order of operations with futures.
+pub mod Conditions
+pub mod Stamps
