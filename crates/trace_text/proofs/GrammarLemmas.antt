@@ -38,7 +38,6 @@ found_ok : {A P : Type 0} (found : Option A) (value : A) → or_bad_number found
 found_ok None value is found_is = cc is
 found_ok (Some x) value is found_is = found_is (ap Some (let same : x ≡ value = cc is in same))
 
-
 each_of-some : (words : List (List ℕ)) (word : List ℕ) (claims : List Claim) → each_of claim_of (word ∷ words) ≡ Some claims → claims ≢ []
 each_of-some words word claims found none =
     option_and_then_some (λ y. option_map (λ ys. y ∷ ys) (each_of claim_of words)) (claim_of word) claims found (λ y _ rest.

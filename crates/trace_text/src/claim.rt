@@ -66,11 +66,7 @@ pub(crate) fn read_entry(
 
 // One or more operations with their answers. A wrong letter comes before a wrong number. In version 2 a Shut is the only
 // word.
-fn read_claims(
-    alloc: Global,
-    second: bool,
-    mut words: Words,
-) -> Result<Items<Claim>, LineRefused>
+fn read_claims(alloc: Global, second: bool, mut words: Words) -> Result<Items<Claim>, LineRefused>
     ensures { ReadsPart (claims_of second words.entry) result }
 {
     let mut claims = Items::new(alloc);
