@@ -145,7 +145,7 @@ fn faults_of_groups_are_named(rt: HostRuntime) -> Result<(), Fail> {
 
 #[test]
 fn legal_histories_of_a_shut_queue_are_counted(rt: HostRuntime) -> Result<(), Fail> {
-    let table: [(&[u8], u64, u64); 7] = [
+    let table: [(&[u8], u64, u64); 8] = [
         (
             b"group 0 0 e1\ngroup 1 0 s\ngroup 0 1 x2 d1 d-\ngroup 1 1 x3\ngroup 1 2 d-\n",
             5,
@@ -157,6 +157,11 @@ fn legal_histories_of_a_shut_queue_are_counted(rt: HostRuntime) -> Result<(), Fa
         (
             b"group 0 0 e1\ngroup 0 1 e2\ngroup 1 0 s\ngroup 1 1 x8\ngroup 0 2 x3 x4 d1\ngroup 1 2 d2\n",
             6,
+            8,
+        ),
+        (
+            b"group 0 0 e1\ngroup 0 1 e2\ngroup 0 2 s\ngroup 0 3 x3\ngroup 0 4 d1\ngroup 0 5 d2\ngroup 0 6 d-\ngroup 0 7 s\n",
+            8,
             8,
         ),
         (b"group 0 0 e1 d1\n", 1, 2),
