@@ -21,6 +21,11 @@ NoShut-front (Enq v ∷ ops) more none = NoShut-front ops more none
 NoShut-front (Deq ∷ ops) more none = NoShut-front ops more none
 NoShut-front (Shut ∷ ops) more none = absurd none
 
+pub NoShut-rest : (op : Op) (ops : List Op) → NoShut (op ∷ ops) → NoShut ops
+NoShut-rest (Enq v) ops none = none
+NoShut-rest Deq ops none = none
+NoShut-rest Shut ops none = absurd none
+
 -- what has none has none at any place
 pub NoShut-index : (ops : List Op) (k : ℕ) (other : Op) → NoShut ops → k < length ops → slice_index_or ops k other ≡ Shut → ⊥
 NoShut-index [] k other none inside is = absurd (omega (arith, inside))
