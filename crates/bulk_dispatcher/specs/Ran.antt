@@ -1,5 +1,5 @@
 -- What is said of jobs that were run.
-use Rattle.std.specs.Prelude.{◌≡◌, ◌+◌, ◌<◌, ◌%◌, ℕ, List, All}
+use Rattle.std.specs.Prelude.{◌+◌, ◌<◌, ◌%◌, ℕ, List, All}
 use Rattle.std.specs.List.{AllZip}
 use Rattle.bq_model.specs.declared.group.Group.{Group}
 use Rattle.bq_model.specs.Own.{mine}

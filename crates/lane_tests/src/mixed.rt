@@ -1,8 +1,9 @@
 // Four callers beside each other, each with a plan of batches, and a fifth that takes what they left. All passes are
 // gathered, and the lane is closed.
-ghost use Rattle.std.specs.Prelude.{◌≡◌, ◌<◌, ◌≤◌, ◌+◌, ◌^◌, ◌∷◌, ◌++◌, [], ℕ, length, map, All, IfOk, IfSome};
+ghost use Rattle.std.specs.Prelude.{◌≡◌, ◌≢◌, ◌<◌, ◌≤◌, ◌+◌, ◌^◌, ◌∷◌, ◌++◌, [], ℕ, length, map, All, IfOk, IfSome};
 ghost use Rattle.std.specs.List.{range_with_len};
 ghost use Rattle.std.specs.Thread.{IsSync};
+ghost use Rattle.bq_model.specs.NoShut.{NoShut};
 
 use bq_lane::BqLane;
 use bq_model::{Answer, Answers, Batch, Lane, Op, OutOfMemory, Shape};
@@ -26,22 +27,31 @@ struct Plan<'a> {
     lengths: &'a [u32],
 }
 
+// The next operation of a caller: an enqueue of the next value, or a dequeue.
+fn next_op(enqueues: bool, next: &mut u64) -> Op
+    ensures { result ≢ Op.Shut }
+{
+    if enqueues {
+        let value = *next;
+        *next = value.wrapping_add(1);
+        Op::Enq(value)
+    } else {
+        Op::Deq
+    }
+}
+
 // Puts so many operations into the batch, the enqueues with the next values. Which ones are enqueues of a mixed batch
 // depends on its number.
 fn fill(batch: &mut Batch, kind: Kind, number: usize, length: u32, next: &mut u64)
     requires capacity { batch.old.capacity ≡ 8 }
     ensures capacity { batch.new.capacity ≡ 8 }
+    ensures no_shut { NoShut batch.new.items }
 {
     batch.clear();
     for place in 0..length.min(8) {
         let even = (number / 2 + place as usize) % 2 == 0;
-        let op = if kind == Kind::Enqueues || kind == Kind::Mixed && even {
-            let value = *next;
-            *next = value.wrapping_add(1);
-            Op::Enq(value)
-        } else {
-            Op::Deq
-        };
+        let enqueues = kind == Kind::Enqueues || kind == Kind::Mixed && even;
+        let op = next_op(enqueues, next);
         if batch.len() < 8 {
             batch.push(op);
         }

@@ -71,6 +71,8 @@ fn run(
                 Ok(Told::Empty)
             }
         },
+        // No call of a session makes one.
+        Op::Shut => Ok(Told::Nothing),
     }
 }
 

@@ -19,6 +19,13 @@ fn of_two(alloc: Global, groups: &[u8]) -> Result<Vec<u8>, AllocError> {
     Ok(text)
 }
 
+/// The same in version 2.
+fn second_of_two(alloc: Global, groups: &[u8]) -> Result<Vec<u8>, AllocError> {
+    let mut text = Vec::from_slice(alloc, b"bqhist 2\ncallers 2\n")?;
+    text.extend_from_slice(groups)?;
+    Ok(text)
+}
+
 #[test]
 fn legal_histories_are_counted(rt: HostRuntime) -> Result<(), Fail> {
     let table: [(&[u8], u64, u64); 14] = [
@@ -85,9 +92,11 @@ fn first_wrong_line_is_named(rt: HostRuntime) -> Result<(), Fail> {
 
 #[test]
 fn faults_before_the_groups_are_named(rt: HostRuntime) -> Result<(), Fail> {
-    let table: [(&[u8], u32, TextCause); 12] = [
+    let table: [(&[u8], u32, TextCause); 14] = [
         (b"", 1, TextCause::NoHeader),
-        (b"bqhist 2\ncallers 1\n", 1, TextCause::NoHeader),
+        (b"bqhist 3\ncallers 1\n", 1, TextCause::NoHeader),
+        (b"bqhist 2 2\ncallers 1\n", 1, TextCause::NoHeader),
+        (b"bqhist 2\n", 2, TextCause::BadWord),
         (b"bqhist 1\n", 2, TextCause::BadWord),
         (b"bqhist 1", 2, TextCause::BadWord),
         (b"bqhist 1\n# a\n\n", 4, TextCause::BadWord),
@@ -108,7 +117,7 @@ fn faults_before_the_groups_are_named(rt: HostRuntime) -> Result<(), Fail> {
 
 #[test]
 fn faults_of_groups_are_named(rt: HostRuntime) -> Result<(), Fail> {
-    let table: [(&[u8], u32, TextCause); 11] = [
+    let table: [(&[u8], u32, TextCause); 13] = [
         (b"callers 2\n", 3, TextCause::BadWord),
         (b"group\n", 3, TextCause::BadWord),
         (b"group 0 0\n", 3, TextCause::BadWord),
@@ -120,9 +129,80 @@ fn faults_of_groups_are_named(rt: HostRuntime) -> Result<(), Fail> {
         (b"group - 0 e1\n", 3, TextCause::BadNumber),
         (b"group 0 0 q1\n", 3, TextCause::BadWord),
         (b"group 0 0 d1\ngroup\n", 4, TextCause::BadWord),
+        (b"group 0 0 x1\n", 3, TextCause::BadWord),
+        (b"group 0 0 e1\ngroup 1 0 s\n", 4, TextCause::BadWord),
     ];
     for (groups, line, cause) in table {
         let text = of_two(rt.alloc(), groups)?;
+        let fault = TextRefused::Text(TextFault { line, cause });
+        assert!(rt;
+            check_history(rt.alloc(), &text) == Err(fault),
+            "{groups:?}"
+        );
+    }
+    Ok(())
+}
+
+#[test]
+fn legal_histories_of_a_shut_queue_are_counted(rt: HostRuntime) -> Result<(), Fail> {
+    let table: [(&[u8], u64, u64); 7] = [
+        (
+            b"group 0 0 e1\ngroup 1 0 s\ngroup 0 1 x2 d1 d-\ngroup 1 1 x3\ngroup 1 2 d-\n",
+            5,
+            7,
+        ),
+        (b"group 1 0 s\ngroup 0 0 x5 d-\n", 2, 3),
+        (b"group 0 0 e1\ngroup 0 1 s\ngroup 0 2 d1 d-\n", 3, 4),
+        (b"group 0 0 s\ngroup 1 0 s\ngroup 0 1 x1\n", 3, 3),
+        (
+            b"group 0 0 e1\ngroup 0 1 e2\ngroup 1 0 s\ngroup 1 1 x8\ngroup 0 2 x3 x4 d1\ngroup 1 2 d2\n",
+            6,
+            8,
+        ),
+        (b"group 0 0 e1 d1\n", 1, 2),
+        (b"", 0, 0),
+    ];
+    for (groups, count, operations) in table {
+        let text = second_of_two(rt.alloc(), groups)?;
+        let found = check_history(rt.alloc(), &text);
+        assert!(rt; found == Ok(legal(count, operations)), "{groups:?}");
+    }
+    Ok(())
+}
+
+#[test]
+fn first_wrong_line_of_a_shut_queue_is_named(rt: HostRuntime) -> Result<(), Fail> {
+    let table: [(&[u8], u32); 6] = [
+        (b"group 0 0 s\ngroup 1 0 e1\n", 4),
+        (b"group 0 0 e1 x2\n", 3),
+        (b"group 0 0 e1\ngroup 0 1 s\ngroup 1 0 d-\n", 5),
+        (b"group 0 0 s\ngroup 1 0 x1 d1\n", 4),
+        (b"group 0 0 e1\ngroup 0 1 s\ngroup 1 0 x2 d2\n", 5),
+        (b"group 0 1 s\n", 3),
+    ];
+    for (groups, line) in table {
+        let text = second_of_two(rt.alloc(), groups)?;
+        let found = check_history(rt.alloc(), &text);
+        assert!(rt; found == Ok(Verdict::Illegal { line }), "{groups:?}");
+    }
+    Ok(())
+}
+
+#[test]
+fn faults_of_groups_of_version_2_are_named(rt: HostRuntime) -> Result<(), Fail> {
+    let table: [(&[u8], u32, TextCause); 9] = [
+        (b"group 0 0 s d-\n", 3, TextCause::BadWord),
+        (b"group 0 0 d- s\n", 3, TextCause::BadWord),
+        (b"group 0 0 s s\n", 3, TextCause::BadWord),
+        (b"group 0 0 s1\n", 3, TextCause::BadWord),
+        (b"group 0 0 s e\n", 3, TextCause::BadWord),
+        (b"group 0 x s\n", 3, TextCause::BadNumber),
+        (b"group 0 0 x\n", 3, TextCause::BadNumber),
+        (b"group 0 0 e1\ngroup 0 1 x-\n", 4, TextCause::BadNumber),
+        (b"group 0 0 q1\n", 3, TextCause::BadWord),
+    ];
+    for (groups, line, cause) in table {
+        let text = second_of_two(rt.alloc(), groups)?;
         let fault = TextRefused::Text(TextFault { line, cause });
         assert!(rt;
             check_history(rt.alloc(), &text) == Err(fault),

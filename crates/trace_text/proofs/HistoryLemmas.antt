@@ -7,6 +7,7 @@ use Rattle.std.proofs.lemmas.List.Elements.{All-push, All-head, All-tail, filter
 use mathlib.Core.Logic.{dite}
 use native.Mathlib.Decide.{ℕ_discrete}
 use Rattle.bq_model.specs.declared.group.Group.{Group}
+use Rattle.bq_model.specs.NoShut.{ShutAlone}
 use Rattle.bq_model.specs.Own.{mine}
 use Rattle.bq_model.specs.Proper.{IsProper}
 
@@ -28,10 +29,11 @@ abbrev batch_of : Group → ℕ
 batch_of g = g.batch
 
 -- the history stays proper where the group is numbered behind its caller's last one
-pub IsProper-push : (callers : ℕ) (h : List Group) (g : Group) → g.caller < callers → g.ops ≢ [] → g.batch ≡ length (mine h g.caller) → IsProper callers h → IsProper callers (h ++ g ∷ [])
-IsProper-push callers h g known filled batch p = record {
+pub IsProper-push : (callers : ℕ) (h : List Group) (g : Group) → g.caller < callers → g.ops ≢ [] → ShutAlone g.ops → g.batch ≡ length (mine h g.caller) → IsProper callers h → IsProper callers (h ++ g ∷ [])
+IsProper-push callers h g known filled alone batch p = record {
   known = All-push (λ (x : Group). x.caller < callers) h g p.known known;
   filled = All-push (λ (x : Group). x.ops ≢ []) h g p.filled filled;
+  shuts = All-push (λ (x : Group). ShutAlone x.ops) h g p.shuts alone;
   numbered = λ c. dite (ℕ_discrete c g.caller)
       (λ same.
       let P : ℕ → Type 0 = λ d. map batch_of (mine (h ++ g ∷ []) d) ≡ range_with_len 0 (length (mine (h ++ g ∷ []) d)) in

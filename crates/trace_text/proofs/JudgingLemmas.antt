@@ -8,7 +8,7 @@ use mathlib.Core.Logic.{dite}
 use native.Mathlib.Decide.{ℕ_discrete}
 use Rattle.bq_model.specs.declared.op.Op.{Op}
 use Rattle.bq_model.specs.declared.group.Group.{Group}
-use Rattle.bq_model.specs.Queue.{queue_after, answer_at_queue}
+use Rattle.bq_model.specs.Queue.{Queue, queue_after, answer_at_queue}
 use Rattle.bq_model.specs.Replay.{queue_from}
 use Rattle.bq_model.specs.History.{last_queue}
 use Rattle.bq_model.specs.Own.{mine}
@@ -23,7 +23,7 @@ use Rattle.trace_text.specs.Judging.{Judging, are_right, is_right_now, after_ent
 
 -- ---- the claims of an entry
 
-module _ (queue next : List ℕ) (claims : List Claim) (k : ℕ) (d : Claim) (inside : k < length claims) where
+module _ (queue next : Queue) (claims : List Claim) (k : ℕ) (d : Claim) (inside : k < length claims) where
   -- the next claim is right
   pub are_right-more : true ≡ same_answer (get_or claims k d).answer (answer_at_queue queue (get_or claims k d).op) → next ≡ queue_after queue (get_or claims k d).op
       → are_right queue (drop k claims) ≡ are_right next (drop (k + 1) claims)
@@ -36,7 +36,7 @@ module _ (queue next : List ℕ) (claims : List Claim) (k : ℕ) (d : Claim) (in
   are_right-wrong wrong = let here = sym wrong in ap (are_right queue) (drop-cons claims k d inside) ∙ rw here refl
 
   -- what the claims so far leave
-  pub queue_from-more : (start : List ℕ) → queue ≡ queue_from start (map (λ (c : Claim). c.op) (take k claims)) → next ≡ queue_after queue (get_or claims k d).op
+  pub queue_from-more : (start : Queue) → queue ≡ queue_from start (map (λ (c : Claim). c.op) (take k claims)) → next ≡ queue_after queue (get_or claims k d).op
       → next ≡ queue_from start (map (λ (c : Claim). c.op) (take (k + 1) claims))
   queue_from-more start before after =
       let op : Claim → Op = λ c. c.op in

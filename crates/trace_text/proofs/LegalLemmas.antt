@@ -7,11 +7,12 @@ use Rattle.std.proofs.lemmas.List.{map-append, length-map, append_cancel_left}
 use Rattle.std.proofs.lemmas.List.Elements.{All-nil, All-head, All-tail}
 use Rattle.bq_model.specs.declared.op.Op.{Op}
 use Rattle.bq_model.specs.declared.op.Answer.{Answer}
-use Rattle.bq_model.specs.declared.op.Answer.TheVariants.{Done, Got, Empty}
+use Rattle.bq_model.specs.declared.op.Answer.TheVariants.{Done, Got, Empty, Refused}
 use Rattle.bq_model.specs.declared.group.Group.{Group}
-use Rattle.bq_model.specs.Queue.{queue_after}
+use Rattle.bq_model.specs.Queue.{Queue, unshut, queue_after}
 use Rattle.bq_model.specs.Replay.{answers_from, queue_from}
 use Rattle.bq_model.specs.History.{operations, answers_of, last_queue}
+use Rattle.bq_model.specs.NoShut.{ShutAlone}
 use Rattle.bq_model.specs.Own.{mine}
 use Rattle.bq_model.specs.Proper.{IsProper}
 use Rattle.bq_model.proofs.Histories.{answers_of-push, answers_from-append}
@@ -29,17 +30,25 @@ use Rattle.trace_text.proofs.HistoryLemmas.{IsProper-push, All-at, numbered-at}
 same_answer-itself : (a : Answer) → same_answer a a ≡ true
 same_answer-itself Done = refl
 same_answer-itself Empty = refl
+same_answer-itself Refused = refl
 same_answer-itself (Got v) = eq-eqb v v refl
 
 same_answer-true : (a b : Answer) → same_answer a b ≡ true → a ≡ b
 same_answer-true Done Done e = refl
 same_answer-true Done Empty e = cc e
 same_answer-true Done (Got w) e = cc e
+same_answer-true Done Refused e = cc e
 same_answer-true Empty Done e = cc e
 same_answer-true Empty Empty e = refl
 same_answer-true Empty (Got w) e = cc e
+same_answer-true Empty Refused e = cc e
 same_answer-true (Got v) Done e = cc e
 same_answer-true (Got v) Empty e = cc e
+same_answer-true (Got v) Refused e = cc e
+same_answer-true Refused Done e = cc e
+same_answer-true Refused Empty e = cc e
+same_answer-true Refused (Got w) e = cc e
+same_answer-true Refused Refused e = refl
 same_answer-true (Got v) (Got w) e = ap Got (eqb-true v w e)
 
 same_answers-itself : (xs : List Answer) → pointwise same_answer xs xs ≡ true
@@ -91,12 +100,13 @@ groups_of-append before more = map-append group_of before more
 
 IsLegal-nil : (callers : ℕ) → IsLegal callers []
 IsLegal-nil callers = record {
-  proper = record { known = All-nil (λ (g : Group). g.caller < callers); filled = All-nil (λ (g : Group). g.ops ≢ []); numbered = λ _. refl };
+  proper = record { known = All-nil (λ (g : Group). g.caller < callers); filled = All-nil (λ (g : Group). g.ops ≢ []); shuts = All-nil (λ (g : Group). ShutAlone g.ops); numbered = λ _. refl };
   answered = refl;
 }
 
+-- an entry has an operation, and a Shut alone
 abbrev pub IsFilled : Entry → Type 0
-IsFilled entry = entry.claims ≢ []
+IsFilled entry = (entry.claims ≢ []) × ShutAlone (group_of entry).ops
 
 filled_ops : (claims : List Claim) → claims ≢ [] → map (λ (c : Claim). c.op) claims ≢ []
 filled_ops [] some none = some refl
@@ -108,7 +118,7 @@ IsLegal-push callers before entry legal filled right =
     let P : List Group → Type 0 = IsProper callers in
     let answers = flat_map-append claimed before (entry ∷ []) ∙ ap (λ (answers : List Answer). flat_map claimed before ++ answers) (append-nil (claimed entry)) in
     record {
-      proper = subst P (sym groups) (IsProper-push callers (groups_of before) (group_of entry) right.known (filled_ops entry.claims filled) right.numbered legal.proper);
+      proper = subst P (sym groups) (IsProper-push callers (groups_of before) (group_of entry) right.known (filled_ops entry.claims filled.0) filled.1 right.numbered legal.proper);
       answered = answers ∙ ((λ i. legal.answered i ++ right.answered i) ∙ (sym (answers_of-push (groups_of before) (group_of entry)) ∙ ap answers_of (sym groups)));
     }
 
@@ -124,7 +134,7 @@ same_front (x ∷ xs) (y ∷ ys) us vs as_long e =
     let inner = same_front xs ys us vs shorter rest in
     cc
 
-length-answers_from : (q : List ℕ) (ops : List Op) → length (answers_from q ops) ≡ length ops
+length-answers_from : (q : Queue) (ops : List Op) → length (answers_from q ops) ≡ length ops
 length-answers_from q [] = refl
 length-answers_from q (op ∷ ops) = ap suc (length-answers_from (queue_after q op) ops)
 
@@ -143,8 +153,8 @@ IsRight-in callers before behind entry start whole =
     flat_map-append claimed before (entry ∷ behind) ∙ ap (λ (answers : List Answer). answers ++ (claimed entry ++ flat_map claimed behind)) start.answered in
     let answers_are : answers_of (groups_of (before ++ entry ∷ behind)) ≡ answers_of earlier ++ (answers_from q group.ops ++ answers_from (queue_from q group.ops) rest) =
     ap answers_of (groups_of-append before (entry ∷ behind))
-    ∙ (ap (answers_from []) (flat_map-append ops_of earlier (group ∷ later))
-    ∙ (answers_from-append [] (operations earlier) (group.ops ++ rest) ∙ ap (λ (answers : List Answer). answers_of earlier ++ answers) (answers_from-append q group.ops rest))) in
+    ∙ (ap (answers_from (unshut [])) (flat_map-append ops_of earlier (group ∷ later))
+    ∙ (answers_from-append (unshut []) (operations earlier) (group.ops ++ rest) ∙ ap (λ (answers : List Answer). answers_of earlier ++ answers) (answers_from-append q group.ops rest))) in
     let behind_both = append_cancel_left (answers_of earlier) (claimed entry ++ flat_map claimed behind) (answers_from q group.ops ++ answers_from (queue_from q group.ops) rest) (sym claims_are ∙ (whole.answered ∙ answers_are)) in
     let as_long : length (claimed entry) ≡ length (answers_from q group.ops) =
     length-map entry.claims (λ (c : Claim). c.answer) ∙ sym (length-answers_from q group.ops ∙ length-map entry.claims (λ (c : Claim). c.op)) in
@@ -176,7 +186,8 @@ none_if_legal callers before (entry ∷ entries) start legal =
     let Q : List Group → Type 0 = IsProper callers in
     let proper = subst Q (groups_of-append before (entry ∷ entries)) legal.proper in
     let some = All-at (λ (g : Group). g.ops ≢ []) (groups_of before) (groups_of entries) (group_of entry) proper.filled in
-    let filled : IsFilled entry = λ none. some (ap (map (λ (c : Claim). c.op)) none) in
+    let alone = All-at (λ (g : Group). ShutAlone g.ops) (groups_of before) (groups_of entries) (group_of entry) proper.shuts in
+    let filled : IsFilled entry = ((λ none. some (ap (map (λ (c : Claim). c.op)) none)), alone) in
     rw here (none_if_legal callers (before ++ entry ∷ []) entries (IsLegal-push callers before entry start filled right) (subst P (sym (append_assoc before (entry ∷ []) entries)) legal))
 
 illegal_if_some : (callers : ℕ) (before entries : List Entry) (line : ℕ) → IsLegal callers before → All IsFilled entries → first_wrong callers before entries ≡ Some line → IsFirstIllegal callers (before ++ entries) line

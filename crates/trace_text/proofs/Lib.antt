@@ -8,3 +8,4 @@ pub mod ShapeLemmas
 pub mod PrintLemmas
 pub mod ReadBack
 pub mod PrintedLegal
+pub mod ShutWords

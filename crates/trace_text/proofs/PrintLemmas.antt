@@ -8,7 +8,7 @@ use Rattle.std.proofs.lemmas.Grind.{flat_map-append}
 use Rattle.std.proofs.lemmas.List.{map-append}
 use Rattle.bq_model.specs.declared.op.Op.{Op}
 use Rattle.bq_model.specs.declared.op.Answer.{Answer}
-use Rattle.bq_model.specs.Queue.{queue_after, answer_at_queue}
+use Rattle.bq_model.specs.Queue.{Queue, queue_after, answer_at_queue}
 use Rattle.bq_model.specs.Replay.{queue_from}
 use Rattle.trace_text.specs.declared.play.Refused.{Refused}
 use Rattle.trace_text.specs.Printed.{unfinished_line, answer_word, op_words, refused_line}
@@ -64,7 +64,7 @@ unfinished-more p c n old new whole below grown before =
 flat_one : (t p w x : List ℕ) → ((t ++ p) ++ w) ++ x ≡ t ++ ((p ++ w) ++ x)
 flat_one t p w x = simp append_assoc
 
-module _ (q next : List ℕ) (ops : List Op) (k : ℕ) (d : Op) (inside : k < length ops) (after : next ≡ queue_after q (get_or ops k d)) where
+module _ (q next : Queue) (ops : List Op) (k : ℕ) (d : Op) (inside : k < length ops) (after : next ≡ queue_after q (get_or ops k d)) where
   split : drop k ops ≡ get_or ops k d ∷ drop (k + 1) ops
   split = rw add-one (drop-cons ops k d inside)
 
@@ -75,11 +75,11 @@ module _ (q next : List ℕ) (ops : List Op) (k : ℕ) (d : Op) (inside : k < le
       let op = get_or ops k d in
       let rest = drop (k + 1) ops in
       ap (λ (t : List ℕ). t ++ spaced (op_words next rest)) (grown ∙ ap (λ (a : Answer). old ++ codes " " ++ answer_word op a) answer_is)
-      ∙ (ap (λ (r : List ℕ). old ++ codes " " ++ answer_word op (answer_at_queue q op) ++ spaced (op_words r rest)) after
+      ∙ (ap (λ (r : Queue). old ++ codes " " ++ answer_word op (answer_at_queue q op) ++ spaced (op_words r rest)) after
       ∙ (flat_one old (codes " ") (answer_word op (answer_at_queue q op)) (spaced (op_words (queue_after q op) rest)) ∙ (ap (λ (left : List Op). old ++ spaced (op_words q left)) (sym split) ∙ before)))
 
-  pub queue_left-more : (whole : List ℕ) → queue_from q (drop k ops) ≡ whole → queue_from next (drop (k + 1) ops) ≡ whole
-  queue_left-more whole before = ap (λ (r : List ℕ). queue_from r (drop (k + 1) ops)) after ∙ (ap (queue_from q) (sym split) ∙ before)
+  pub queue_left-more : (whole : Queue) → queue_from q (drop k ops) ≡ whole → queue_from next (drop (k + 1) ops) ≡ whole
+  queue_left-more whole before = ap (λ (r : Queue). queue_from r (drop (k + 1) ops)) after ∙ (ap (queue_from q) (sym split) ∙ before)
 
 -- ---- refusals
 

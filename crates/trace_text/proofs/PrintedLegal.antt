@@ -10,21 +10,23 @@ use Rattle.bq_model.specs.declared.fault.TextCause.{TextCause}
 use Rattle.bq_model.specs.declared.fault.TextFault.{TextFault}
 use Rattle.bq_model.specs.declared.op.Op.{Op}
 use Rattle.bq_model.specs.declared.group.Group.{Group}
+use Rattle.bq_model.specs.NoShut.{NeverShut}
+use Rattle.bq_model.specs.Queue.{Queue, unshut}
 use Rattle.bq_model.specs.Replay.{answers_from, queue_from}
 use Rattle.bq_model.specs.History.{operations, answers_of}
 use Rattle.bq_model.specs.Proper.{IsProper}
 use Rattle.bq_model.proofs.Histories.{answers_from-append}
-use Rattle.text_lines.specs.Words.{IsWord, is_passed_over}
+use Rattle.text_lines.specs.Words.{IsWord, is_passed_over, is_header}
 use Rattle.text_lines.specs.Reading.{read_lines, behind_line, words_line, text_line}
 use Rattle.text_lines.specs.Parts.{◌>>=◌}
 use Rattle.text_lines.proofs.IsWordLemmas.{IsWord-from_test, is_text-joined}
-use Rattle.text_lines.proofs.PrintedLines.{AreWords, read_lines-joined, words_of-joined, text_state-printed}
+use Rattle.text_lines.proofs.PrintedLines.{AreWords, read_lines-joined, words_of-joined, lines_of-printed, text_state-printed}
 use Rattle.text_lines.proofs.PrintedValues.{IsWord-decimal, number_of-decimal}
 use Rattle.trace_text.specs.declared.claim.Entry.{Entry}
 use Rattle.trace_text.specs.declared.play.Refused.{Refused}
 use Rattle.trace_text.specs.declared.verdict.Verdict.TheVariants.{Legal}
 use Rattle.trace_text.specs.Claims.{claimed}
-use Rattle.trace_text.specs.HistoryText.{LinesSay, operation_count, meaning, nothing_yet, history_at_end}
+use Rattle.trace_text.specs.HistoryText.{LinesSay, operation_count, meaning, nothing_yet, begins_second, is_second, said_in, history_at_end}
 use Rattle.trace_text.specs.Legal.{IsLegal}
 use Rattle.trace_text.specs.Played.{Playing, state_of, refusals_of, is_idle}
 use Rattle.trace_text.specs.Printed.{group_lines, refused_line, reason_word, unfinished_line, unfinished, comment_lines, play_text}
@@ -80,25 +82,25 @@ AreComments p refused few =
 
 -- ---- the entries that are read
 
-groups_of-entries : (h : List Group) (line : ℕ) (q : List ℕ) → groups_of (entries_from line q h) ≡ h
+groups_of-entries : (h : List Group) (line : ℕ) (q : Queue) → groups_of (entries_from line q h) ≡ h
 groups_of-entries [] line q = refl
 groups_of-entries (g ∷ h) line q =
     let ops = ops_of-claims q g.ops in
     let rest = groups_of-entries h (line + 1) (queue_from q g.ops) in
     λ i. record { caller = g.caller; batch = g.batch; ops = ops i } ∷ rest i
 
-answers_of-entries : (h : List Group) (line : ℕ) (q : List ℕ) → flat_map claimed (entries_from line q h) ≡ answers_from q (operations h)
+answers_of-entries : (h : List Group) (line : ℕ) (q : Queue) → flat_map claimed (entries_from line q h) ≡ answers_from q (operations h)
 answers_of-entries [] line q = refl
 answers_of-entries (g ∷ h) line q =
     let here = answers_of-claims q g.ops in
     let rest = answers_of-entries h (line + 1) (queue_from q g.ops) in
     (λ i. here i ++ rest i) ∙ sym (answers_from-append q g.ops (operations h))
 
-length-entries : (h : List Group) (line : ℕ) (q : List ℕ) → length (entries_from line q h) ≡ length h
+length-entries : (h : List Group) (line : ℕ) (q : Queue) → length (entries_from line q h) ≡ length h
 length-entries [] line q = refl
 length-entries (g ∷ h) line q = ap suc (length-entries h (line + 1) (queue_from q g.ops))
 
-count-entries : (h : List Group) (line : ℕ) (q : List ℕ) → operation_count (entries_from line q h) ≡ length (operations h)
+count-entries : (h : List Group) (line : ℕ) (q : Queue) → operation_count (entries_from line q h) ≡ length (operations h)
 count-entries [] line q = refl
 count-entries (g ∷ h) line q =
     let here = length-claims q g.ops in
@@ -122,38 +124,43 @@ filled-count (g ∷ h) filled =
 
 -- ---- the whole text
 
-pub play_text-legal : (p : Playing) → IsProper p.shape.callers (state_of p).history → All IsGroupInRange (state_of p).history → All IsRefusedInRange (refusals_of p) → IsFoundLegal (state_of p).history (play_text p)
-play_text-legal p proper ranges refused short few =
+pub play_text-legal : (p : Playing) → IsProper p.shape.callers (state_of p).history → NeverShut (state_of p).history → All IsGroupInRange (state_of p).history → All IsRefusedInRange (refusals_of p) → IsFoundLegal (state_of p).history (play_text p)
+play_text-legal p proper never ranges refused short few =
     let h = (state_of p).history in
     let callers = p.shape.callers in
     let low = p.shape.some_callers in
     let comments = AreComments p refused low.1 in
-    let groups = group_lines [] h in
+    let groups = group_lines (unshut []) h in
     let callers_line : List (List ℕ) = codes "callers" ∷ decimal callers ∷ [] in
     let callers_are : AreWords callers_line = All-cons IsWord (codes "callers") (decimal callers ∷ []) (IsWord-from_test (codes "callers") refl) (All-cons IsWord (decimal callers) [] (IsWord-decimal callers (omega arith)) (All-nil IsWord)) in
     let as_many = filled-count h proper.filled in
     let comment_words = All-weaker IsComment AreWords (λ line is. is.0) (comment_lines p) comments in
-    let lines_are = All-cons AreWords callers_line (groups ++ comment_lines p) callers_are (All-append AreWords groups (comment_lines p) (AreWords-groups h [] [] callers proper low.1 (omega arith) ranges (All-nil IsNumber)) comment_words) in
+    let lines_are = All-cons AreWords callers_line (groups ++ comment_lines p) callers_are (All-append AreWords groups (comment_lines p) (AreWords-groups h [] (unshut []) callers proper low.1 (omega arith) ranges never refl (All-nil IsNumber)) comment_words) in
     let number = number_of-decimal callers (omega arith) in
     let least = le-leb 1 callers low.0 in
     let most = le-leb callers 17 low.1 in
-    let callers_said : meaning 2 nothing_yet callers_line ≡ Ok (said callers []) = rw (number, least, most) refl in
-    let entries = entries_from 3 [] h in
-    let read = text_state-printed (codes "bqhist") (codes "1") meaning nothing_yet (callers_line ∷ (groups ++ comment_lines p)) (IsWord-from_test (codes "bqhist") refl) (IsWord-from_test (codes "1") refl) lines_are short
-    ∙ (read_lines-joined (codes "bqhist") (codes "1") meaning 2 nothing_yet (said callers []) callers_line (joined (groups ++ comment_lines p)) callers_are (omega arith) refl callers_said
+    let callers_said : meaning 2 (nothing_yet false) callers_line ≡ Ok (said callers []) = rw (number, least, most) refl in
+    let header_words : AreWords (codes "bqhist" ∷ codes "1" ∷ []) = All-cons IsWord (codes "bqhist") (codes "1" ∷ []) (IsWord-from_test (codes "bqhist") refl) (All-cons IsWord (codes "1") [] (IsWord-from_test (codes "1") refl) (All-nil IsWord)) in
+    let entries = entries_from 3 (unshut []) h in
+    let read = text_state-printed (codes "bqhist") (codes "1") meaning (nothing_yet false) (callers_line ∷ (groups ++ comment_lines p)) (IsWord-from_test (codes "bqhist") refl) (IsWord-from_test (codes "1") refl) lines_are short
+    ∙ (read_lines-joined (codes "bqhist") (codes "1") meaning 2 (nothing_yet false) (said callers []) callers_line (joined (groups ++ comment_lines p)) callers_are (omega arith) refl callers_said
     ∙ (ap (read_from 3 (said callers [])) (map-append (join_with_byte 32) groups (comment_lines p))
-    ∙ (reads_groups h [] [] 3 callers [] (joined (comment_lines p)) proper low.1 (omega arith) ranges (All-nil IsNumber) (omega arith) (omega arith)
+    ∙ (reads_groups h [] (unshut []) 3 callers [] (joined (comment_lines p)) proper low.1 (omega arith) ranges never refl (All-nil IsNumber) (omega arith) (omega arith)
     ∙ reads_comments (comment_lines p) (3 + length h) (said callers entries) comments (omega arith)))) in
-    let groups_are = groups_of-entries h 3 [] in
+    let groups_are = groups_of-entries h 3 (unshut []) in
     let P : List Group → Type 0 = IsProper callers in
-    let legal : IsLegal callers entries = record { proper = subst P (sym groups_are) proper; answered = answers_of-entries h 3 [] ∙ ap answers_of (sym groups_are) } in
+    let legal : IsLegal callers entries = record { proper = subst P (sym groups_are) proper; answered = answers_of-entries h 3 (unshut []) ∙ ap answers_of (sym groups_are) } in
     let none = none_from_legal callers entries legal in
     let verdict : verdict_of (record { callers = callers; entries = entries }) ≡ Legal (length h) (length (operations h)) =
-    ap (verdict_with entries) none ∙ (λ i. Legal (length-entries h 3 [] i) (count-entries h 3 [] i)) in
-    ap (λ (r : Result LinesSay TextFault). (r >>= (λ say. history_at_end (length (lines_of (play_text p)) + 1) say.callers say.entries)) >>= (λ history. Ok (verdict_of history))) read ∙ ap Ok verdict
+    ap (verdict_with entries) none ∙ (λ i. Legal (length-entries h 3 (unshut []) i) (count-entries h 3 (unshut []) i)) in
+    let lines_are_read : List (List (List ℕ)) = callers_line ∷ (groups ++ comment_lines p) in
+    let first : is_second (play_text p) ≡ false = ap begins_second (lines_of-printed ((codes "bqhist" ∷ codes "1" ∷ []) ∷ lines_are_read) (All-cons AreWords (codes "bqhist" ∷ codes "1" ∷ []) lines_are_read header_words lines_are))
+    ∙ ap (is_header (codes "bqhist") (codes "2")) (words_of-joined (codes "bqhist" ∷ codes "1" ∷ []) header_words) in
+    ap (λ (r : Result LinesSay TextFault). (r >>= (λ say. history_at_end (length (lines_of (play_text p)) + 1) say.callers say.entries)) >>= (λ history. Ok (verdict_of history)))
+    (ap (λ (second : Bool). said_in second (play_text p)) first ∙ read) ∙ ap Ok verdict
 
 -- the same of what a printer gives
 pub printed-legal : {E : Type 0} (p : Playing) (printed : Result (List ℕ) E) → IfOk printed (λ text. text ≡ play_text p) → OnOk printed (IsProper p.shape.callers (state_of p).history)
-    → OnOk printed (All IsGroupInRange (state_of p).history) → OnOk printed (All IsRefusedInRange (refusals_of p)) → IfOk printed (λ text. IsFoundLegal (state_of p).history text)
-printed-legal p (Ok text) is proper ranges refused = let P : List ℕ → Type 0 = λ t. IsFoundLegal (state_of p).history t in subst P (sym is) (play_text-legal p proper ranges refused)
-printed-legal p (Err error) is proper ranges refused = tt
+    → OnOk printed (NeverShut (state_of p).history) → OnOk printed (All IsGroupInRange (state_of p).history) → OnOk printed (All IsRefusedInRange (refusals_of p)) → IfOk printed (λ text. IsFoundLegal (state_of p).history text)
+printed-legal p (Ok text) is proper never ranges refused = let P : List ℕ → Type 0 = λ t. IsFoundLegal (state_of p).history t in subst P (sym is) (play_text-legal p proper never ranges refused)
+printed-legal p (Err error) is proper never ranges refused = tt

@@ -1,6 +1,7 @@
 -- A history judged from entry to entry.
 use Rattle.std.specs.Prelude.{ℕ, ◌+◌, Bool, ◌&&◌, List, length, map, nat_eq, nat_lt, slice_index_or, slice_set}
 use Rattle.std.specs.Cmp.Lexicographic.{pointwise}
+use Rattle.bq_model.specs.Queue.{Queue}
 use Rattle.bq_model.specs.Replay.{answers_from, queue_from}
 use Rattle.trace_text.specs.declared.claim.Claim.{Claim}
 use Rattle.trace_text.specs.declared.claim.Entry.{Entry}
@@ -8,11 +9,11 @@ use Rattle.trace_text.specs.Verdicts.{same_answer}
 
 -- what is queued, and how many groups each caller has made
 pub record Judging : Type 0 where
-  pub queue : List ℕ
+  pub queue : Queue
   pub made : List ℕ
 
 -- whether each claimed answer is the queue's
-abbrev pub are_right : List ℕ → List Claim → Bool
+abbrev pub are_right : Queue → List Claim → Bool
 are_right queue claims = pointwise same_answer (map (λ c. c.answer) claims) (answers_from queue (map (λ c. c.op) claims))
 
 -- whether the next entry is right

@@ -6,10 +6,10 @@ use Rattle.bq_model.specs.declared.error.Refusal.TheVariants.{Spent, Full}
 use Rattle.bq_model.specs.declared.fault.TextFault.{TextFault}
 use Rattle.bq_model.specs.declared.group.Group.{Group}
 use Rattle.bq_model.specs.declared.op.Op.{Op}
-use Rattle.bq_model.specs.declared.op.Op.TheVariants.{Enq, Deq}
+use Rattle.bq_model.specs.declared.op.Op.TheVariants.{Enq, Deq, Shut}
 use Rattle.bq_model.specs.declared.op.Answer.{Answer}
-use Rattle.bq_model.specs.declared.op.Answer.TheVariants.{Got}
-use Rattle.bq_model.specs.Queue.{queue_after, answer_at_queue}
+use Rattle.bq_model.specs.declared.op.Answer.TheVariants as answer
+use Rattle.bq_model.specs.Queue.{Queue, unshut, queue_after, answer_at_queue}
 use Rattle.bq_model.specs.Replay.{queue_from}
 use Rattle.text_lines.specs.Printed.{printed_lines}
 use Rattle.text_lines.specs.Parts.{◌>>=◌}
@@ -19,27 +19,29 @@ use Rattle.trace_text.specs.ScheduleText.{machine_at_end, play_of}
 
 -- an operation with its answer; a dequeue is never answered Done
 abbrev pub answer_word : Op → Answer → List ℕ
-answer_word (Enq v) answer = codes "e" ++ decimal v
-answer_word Deq (Got v) = codes "d" ++ decimal v
-answer_word Deq answer = codes "d-"
+answer_word (Enq v) answer.Refused = codes "x" ++ decimal v
+answer_word (Enq v) other = codes "e" ++ decimal v
+answer_word Deq (answer.Got v) = codes "d" ++ decimal v
+answer_word Deq other = codes "d-"
+answer_word Shut other = codes "s"
 
 -- operations with the answers of this queue
-abbrev pub op_words : List ℕ → List Op → List (List ℕ)
+abbrev pub op_words : Queue → List Op → List (List ℕ)
 op_words q [] = []
 op_words q (op ∷ ops) = answer_word op (answer_at_queue q op) ∷ op_words (queue_after q op) ops
 
 -- the line of a group on this queue
-abbrev pub group_words : List ℕ → Group → List (List ℕ)
+abbrev pub group_words : Queue → Group → List (List ℕ)
 group_words q g = codes "group" ∷ decimal g.caller ∷ decimal g.batch ∷ op_words q g.ops
 
 -- the lines of groups, of which the first is on this queue
-abbrev pub group_lines : List ℕ → List Group → List (List (List ℕ))
+abbrev pub group_lines : Queue → List Group → List (List (List ℕ))
 group_lines q [] = []
 group_lines q (g ∷ h) = group_words q g ∷ group_lines (queue_from q g.ops) h
 
 -- the lines of a history of so many callers, behind the header
 abbrev pub history_lines : ℕ → List Group → List (List (List ℕ))
-history_lines callers h = (codes "callers" ∷ decimal callers ∷ []) ∷ group_lines [] h
+history_lines callers h = (codes "callers" ∷ decimal callers ∷ []) ∷ group_lines (unshut []) h
 
 abbrev pub reason_word : Refusal → List ℕ
 reason_word Spent = codes "spent"

@@ -2,7 +2,7 @@
 use Rattle.std.specs.Prelude.{◌≡◌, ℕ, ◌^◌, ◌<◌, ◌≤◌, List, length, All, Ok}
 use Rattle.bq_model.specs.declared.group.Group.{Group}
 use Rattle.bq_model.specs.declared.op.Op.{Op}
-use Rattle.bq_model.specs.declared.op.Op.TheVariants.{Enq, Deq}
+use Rattle.bq_model.specs.declared.op.Op.TheVariants.{Enq, Deq, Shut}
 use Rattle.bq_model.specs.History.{operations}
 use Rattle.text_lines.specs.Reading.{most_bytes}
 use Rattle.trace_text.specs.declared.play.Refused.{Refused}
@@ -18,6 +18,7 @@ IsNumber n = n < 2 ^ 64
 abbrev pub IsOpInRange : Op → Type 0
 IsOpInRange (Enq v) = IsNumber v
 IsOpInRange Deq = Unit {0}
+IsOpInRange Shut = Unit {0}
 
 abbrev pub IsGroupInRange : Group → Type 0
 IsGroupInRange g = All IsOpInRange g.ops

@@ -2,7 +2,7 @@
 use Rattle.std.specs.Prelude.{ℕ, Bool, true, false, ◌&&◌, ◌++◌, List, [], ◌∷◌, length, map, Option, None, Some, Result, Ok, nat_eq, nat_lt, if◌then◌else◌}
 use Rattle.std.specs.Cmp.Lexicographic.{pointwise}
 use Rattle.bq_model.specs.declared.op.Answer.{Answer}
-use Rattle.bq_model.specs.declared.op.Answer.TheVariants.{Done, Got, Empty}
+use Rattle.bq_model.specs.declared.op.Answer.TheVariants.{Done, Got, Empty, Refused}
 use Rattle.bq_model.specs.declared.group.Group.{Group}
 use Rattle.bq_model.specs.declared.fault.TextFault.{TextFault}
 use Rattle.bq_model.specs.Replay.{answers_from}
@@ -23,6 +23,7 @@ groups_of entries = map group_of entries
 abbrev pub same_answer : Answer → Answer → Bool
 same_answer Done Done = true
 same_answer Empty Empty = true
+same_answer Refused Refused = true
 same_answer (Got v) (Got w) = nat_eq v w
 same_answer _ _ = false
 

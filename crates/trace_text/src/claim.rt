@@ -1,7 +1,7 @@
 // What a line of a history claims.
-ghost use Rattle.std.specs.Prelude.{◌≡◌};
+ghost use Rattle.std.specs.Prelude.{◌≡◌, ◌&&◌, not, bytes_eq, codes};
 ghost use Rattle.text_lines.specs.Refusals.{ReadsPart};
-ghost use Rattle.trace_text.specs.Claims.{enqueue_of, dequeue_of, has_letter, claim_of, claims_of};
+ghost use Rattle.trace_text.specs.Claims.{enqueue_of, refusal_of, dequeue_of, has_letter, claim_of, op_claims_of, shut_before, claims_of};
 ghost use Rattle.trace_text.specs.HistoryText.{entry_in};
 
 use bq_model::{Answer, Items, Op, TextCause};
@@ -34,9 +34,14 @@ pub struct Entry {
     pub claims: Items<Claim>,
 }
 
-/// A group in this line: a caller, a batch number and operations.
-pub(crate) fn read_entry(alloc: Global, line: u32, mut words: Words) -> Result<Entry, LineRefused>
-    ensures { ReadsPart (entry_in line words.entry) result }
+/// A group in this line of a text of version 2, or of version 1: a caller, a batch number and operations.
+pub(crate) fn read_entry(
+    alloc: Global,
+    second: bool,
+    line: u32,
+    mut words: Words,
+) -> Result<Entry, LineRefused>
+    ensures { ReadsPart (entry_in second line words.entry) result }
 {
     let Some(caller) = words.next() else {
         return Err(BAD_WORD);
@@ -44,7 +49,7 @@ pub(crate) fn read_entry(alloc: Global, line: u32, mut words: Words) -> Result<E
     let Some(batch) = words.next() else {
         return Err(BAD_WORD);
     };
-    let claims = read_claims(alloc, words)?;
+    let claims = read_claims(alloc, second, words)?;
     let Some(caller) = number(caller) else {
         return Err(BAD_NUMBER);
     };
@@ -59,16 +64,20 @@ pub(crate) fn read_entry(alloc: Global, line: u32, mut words: Words) -> Result<E
     })
 }
 
-// One or more operations with their answers. A wrong letter comes before a wrong number.
-fn read_claims(alloc: Global, words: Words) -> Result<Items<Claim>, LineRefused>
-    ensures { ReadsPart (claims_of words.entry) result }
+// One or more operations with their answers. A wrong letter comes before a wrong number. In version 2 a Shut is the only
+// word.
+fn read_claims(alloc: Global, second: bool, mut words: Words) -> Result<Items<Claim>, LineRefused>
+    ensures { ReadsPart (claims_of second words.entry) result }
 {
     let mut claims = Items::new(alloc);
     let mut some = false;
     let mut right = true;
-    for word in words {
+    while let Some(word) = words.next() {
+        if is_shut(second, some, word) {
+            return read_shut(alloc, words);
+        }
         some = true;
-        if !has_letter(word) {
+        if !has_letter(second, word) {
             return Err(BAD_WORD);
         }
         match read_claim(word) {
@@ -85,12 +94,34 @@ fn read_claims(alloc: Global, words: Words) -> Result<Items<Claim>, LineRefused>
     Ok(claims)
 }
 
-fn has_letter(word: &[u8]) -> bool
-    ensures { result ≡ has_letter word.now }
+// Whether a word is that of a Shut: in version 2, with no word before it.
+fn is_shut(second: bool, some: bool, word: &[u8]) -> bool
+    ensures { result ≡ (second && not some && bytes_eq word.now (codes "s")) }
+{
+    second && !some && word == b"s".as_slice()
+}
+
+// A Shut, with no word behind it.
+fn read_shut(alloc: Global, mut words: Words) -> Result<Items<Claim>, LineRefused>
+    ensures { ReadsPart (shut_before words.entry) result }
+{
+    if words.next().is_some() {
+        return Err(BAD_WORD);
+    }
+    let mut claims = Items::new(alloc);
+    claims.push(Claim {
+        op: Op::Shut,
+        answer: Answer::Done,
+    })?;
+    Ok(claims)
+}
+
+fn has_letter(second: bool, word: &[u8]) -> bool
+    ensures { result ≡ has_letter second word.now }
 {
     match word {
         [] => false,
-        [letter, ..] => *letter == b'e' || *letter == b'd',
+        [letter, ..] => *letter == b'e' || *letter == b'd' || second && *letter == b'x',
     }
 }
 
@@ -103,6 +134,9 @@ fn read_claim(word: &[u8]) -> Option<Claim>
     if *letter == b'e' {
         return read_enqueue(rest);
     }
+    if *letter == b'x' {
+        return read_refusal(rest);
+    }
     read_dequeue(rest)
 }
 
@@ -113,6 +147,16 @@ fn read_enqueue(word: &[u8]) -> Option<Claim>
     Some(Claim {
         op: Op::Enq(v),
         answer: Answer::Done,
+    })
+}
+
+fn read_refusal(word: &[u8]) -> Option<Claim>
+    ensures { result ≡ refusal_of word.now }
+{
+    let v = number(word)?;
+    Some(Claim {
+        op: Op::Enq(v),
+        answer: Answer::Refused,
     })
 }
 

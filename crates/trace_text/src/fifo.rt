@@ -1,33 +1,35 @@
 // The queue of a single thread.
 ghost use Rattle.std.specs.Prelude.{◌≡◌, [], IfOk, OnOk};
-ghost use Rattle.bq_model.specs.Queue.{queue_after, answer_at_queue};
+ghost use Rattle.bq_model.specs.Queue.{unshut, queue_after, answer_at_queue};
 
 use bq_model::{Answer, Op, OutOfMemory};
 use std::alloc::Global;
 use std::collections::VecDeque;
 use std::marker::Model;
 
-/// The values that are queued, the first one first.
+/// The values that are queued, the first one first, and whether the queue is shut.
 #[derive(Drop)]
 pub(crate) struct Fifo {
     values: VecDeque<u64>,
+    shut: bool,
 }
 
 impl Model for Fifo {
-    ghost use Rattle.std.specs.Prelude.{List, ℕ};
+    ghost use Rattle.bq_model.specs.Queue.{Queue, queue_of};
 
-    ghost Value = { List ℕ };
+    ghost Value = { Queue };
 
-    ghost view = { λ f. f.values.items };
+    ghost view = { λ f. queue_of f.values.items f.shut };
 }
 
 impl Fifo {
-    /// An empty queue.
+    /// An empty queue that isn't shut.
     pub(crate) fn new(alloc: Global) -> Self
-        ensures { result ≡ [] }
+        ensures { result ≡ unshut [] }
     {
         Fifo {
             values: VecDeque::new(alloc),
+            shut: false,
         }
     }
 
@@ -37,6 +39,7 @@ impl Fifo {
         ensures queue { OnOk result (self.new ≡ queue_after self.old op) }
     {
         match op {
+            Op::Enq(_) if self.shut => Ok(Answer::Refused),
             Op::Enq(v) => {
                 self.values.push_back(v)?;
                 Ok(Answer::Done)
@@ -45,6 +48,10 @@ impl Fifo {
                 Some(v) => Ok(Answer::Got(v)),
                 None => Ok(Answer::Empty),
             },
+            Op::Shut => {
+                self.shut = true;
+                Ok(Answer::Done)
+            }
         }
     }
 }

@@ -17,6 +17,8 @@ const MOST_OPERATIONS: usize = 1_000_000;
 #[derive(Drop)]
 pub(crate) struct Claims {
     alloc: Global,
+    // Whether the text is of version 2.
+    second: bool,
     callers: Option<u32>,
     entries: Vec<Entry>,
     // How many operations the entries have.
@@ -29,7 +31,7 @@ impl Model for Claims {
 
     ghost Value = { LinesSay };
 
-    ghost view = { λ c. record { callers = c.callers; entries = c.entries.items } };
+    ghost view = { λ c. record { second = c.second; callers = c.callers; entries = c.entries.items } };
 
     ghost invariant = { λ c. (c.count ≡ operation_count c.entries.items) × (c.count ≤ most_operations) };
 }
@@ -57,12 +59,13 @@ impl Claims {
     ghost use Rattle.text_lines.specs.Refusals.{ReadsLine};
     ghost use Rattle.trace_text.specs.HistoryText.{nothing_yet, group_line, add_entry, operation_count, most_operations};
 
-    /// Before the first line.
-    pub(crate) fn new(alloc: Global) -> Self
-        ensures { result ≡ nothing_yet }
+    /// Before the first line of a text of version 2, or of version 1.
+    pub(crate) fn new(alloc: Global, second: bool) -> Self
+        ensures { result ≡ nothing_yet second }
     {
         Claims {
             alloc,
+            second,
             callers: None,
             entries: Vec::new(alloc),
             count: 0,
@@ -85,7 +88,7 @@ impl Claims {
     }
 
     fn group(&mut self, line: u32, mut words: Words) -> Result<(), LineRefused>
-        ensures { ReadsLine (group_line line self.old.callers self.old.entries words.entry) result self.new }
+        ensures { ReadsLine (group_line self.old.second line self.old.callers self.old.entries words.entry) result self.new }
     {
         let Some(word) = words.next() else {
             return Err(LineRefused::Cause(TextCause::BadWord));
@@ -93,12 +96,12 @@ impl Claims {
         if word != b"group".as_slice() {
             return Err(LineRefused::Cause(TextCause::BadWord));
         }
-        let entry = read_entry(self.alloc, line, words)?;
+        let entry = read_entry(self.alloc, self.second, line, words)?;
         self.add(entry)
     }
 
     fn add(&mut self, entry: Entry) -> Result<(), LineRefused>
-        ensures { ReadsLine (add_entry self.old.callers self.old.entries entry) result self.new }
+        ensures { ReadsLine (add_entry self.old.second self.old.callers self.old.entries entry) result self.new }
     {
         let more = entry.claims.len();
         if more > MOST_OPERATIONS - self.count {

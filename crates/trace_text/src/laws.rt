@@ -4,7 +4,7 @@ ghost use Rattle.bq_model.specs.declared.fault.TextCause.TheVariants.{TooLong, B
 ghost use Rattle.bq_model.specs.declared.fault.TextFault.{TextFault};
 ghost use Rattle.text_lines.specs.Lines.{lines_of};
 ghost use Rattle.text_lines.specs.Reading.{most_bytes, fault, text_line, IsFirstFault};
-ghost use Rattle.trace_text.specs.HistoryText.{History, LinesSay, operation_count, hist_of, said_of, meaning, nothing_yet};
+ghost use Rattle.trace_text.specs.HistoryText.{History, LinesSay, operation_count, hist_of, said_of, meaning, nothing_yet, is_second, version_word};
 ghost use Rattle.trace_text.specs.Verdicts.{verdict_of, verdict_in};
 ghost use Rattle.trace_text.specs.Printed.{played_in};
 ghost use Rattle.trace_text.specs.Legal.{IsLegal, IsFirstIllegal};
@@ -24,7 +24,7 @@ pub fn verdict_is_that_of_the_replay()
 pub fn first_faulty_line_of_a_history_is_named()
     ensures too_long { (text : List ℕ) → most_bytes < length text → hist_of text ≡ Err (fault 0 TooLong) }
     ensures first_line { (text : List ℕ) (found : TextFault) → length text ≤ most_bytes → text ≢ []
-        → (said_of text ≡ Err found) ↔ IsFirstFault (text_line (codes "bqhist") (codes "1") meaning) 1 nothing_yet (lines_of text) found }
+        → (said_of text ≡ Err found) ↔ IsFirstFault (text_line (codes "bqhist") (version_word (is_second text)) meaning) 1 (nothing_yet (is_second text)) (lines_of text) found }
     ensures line_before_callers { (text : List ℕ) (found : TextFault) → (said_of text ≡ Err found) → hist_of text ≡ Err found }
     ensures no_callers { (text : List ℕ) (say : LinesSay) → (said_of text ≡ Ok say) → say.callers ≡ None
         → hist_of text ≡ Err (fault (length (lines_of text) + 1) BadWord) }

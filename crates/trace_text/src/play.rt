@@ -1,5 +1,6 @@
 // A machine that is played: what was refused, and how many steps may still be made.
 ghost use Rattle.std.specs.Prelude.{◌≡◌, ◌≢◌, ◌<◌, ◌≤◌, true, false, ◌++◌, [], length, IfOk, OnOk, OnErr};
+ghost use Rattle.bq_model.specs.NoShut.{NoShut, NeverShut};
 ghost use Rattle.bq_model.specs.Proper.{IsProper};
 ghost use Rattle.text_lines.specs.Refusals.{ReadsLine};
 ghost use Rattle.trace_text.specs.Played.{state_of, refusals_of, refusal, is_idle, ended_full, begun, stops, stepped, ran};
@@ -82,6 +83,7 @@ impl Play {
     pub(crate) fn history(&self) -> &[Group]
         ensures history { result.now ≡ (state_of self.now).history }
         ensures proper { IsProper self.now.shape.callers result.now }
+        ensures never_shut { NeverShut result.now }
     {
         self.machine.history()
     }
@@ -97,6 +99,7 @@ impl Play {
     pub(crate) fn begin(&mut self, caller: u32, ops: Ops) -> Result<(), LineRefused>
         requires known { caller < self.old.shape.callers }
         requires startable { is_startable ops ≡ true }
+        requires no_shut { NoShut ops }
         ensures { ReadsLine (begun self.old caller ops) result self.new }
     {
         if self.machine.next_kind(caller).is_some() {
@@ -167,6 +170,7 @@ fn start(
     requires known { caller < machine.old.shape.callers }
     requires idle { (caller_at machine.old caller).point ≡ Idle }
     requires startable { is_startable ops.now ≡ true }
+    requires no_shut { NoShut ops.now }
     requires most { length ops.now ≤ machine.old.shape.batch }
     ensures state { OnOk result (state_at machine.new ≡ after_event machine.old.shape (state_at machine.old) (event.Start caller ops.now)) }
     ensures refused { OnOk result (refused.new.items ≡ refused.old.items ++ refusal machine.old.shape (state_at machine.old) (event.Start caller ops.now)) }

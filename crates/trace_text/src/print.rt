@@ -1,6 +1,8 @@
 // The text of a machine.
 ghost use Rattle.std.specs.Prelude.{◌≡◌, ◌<◌, ◌++◌, ◌∷◌, [], codes, decimal, map, filter, not, All, IfOk, OnOk};
+ghost use Rattle.bq_model.specs.NoShut.{NeverShut};
 ghost use Rattle.bq_model.specs.Proper.{IsProper};
+ghost use Rattle.bq_model.specs.Queue.{unshut};
 ghost use Rattle.bq_model.specs.Replay.{queue_from};
 ghost use Rattle.text_lines.specs.Printed.{printed_line, printed_lines, spaced};
 ghost use Rattle.trace_text.specs.Played.{state_of, refusals_of, is_idle};
@@ -25,6 +27,7 @@ pub(crate) fn print_play(alloc: Global, play: &Play) -> Result<Text, OutOfMemory
 fn print_all(alloc: Global, play: &Play) -> Result<Text, OutOfMemory>
     ensures text { IfOk result (λ text. text ≡ play_text play.now) }
     ensures proper { OnOk result (IsProper play.now.shape.callers (state_of play.now).history) }
+    ensures never_shut { OnOk result (NeverShut (state_of play.now).history) }
     ensures in_range { OnOk result (All IsGroupInRange (state_of play.now).history) }
     ensures refused_in_range { OnOk result (All IsRefusedInRange (refusals_of play.now)) }
 {
@@ -47,7 +50,7 @@ fn print_callers(text: &mut Text, callers: u32) -> Result<(), OutOfMemory>
 
 // Prints groups with the answers of a queue that is empty at first, in one pass.
 fn print_groups(alloc: Global, text: &mut Text, history: &[Group]) -> Result<(), OutOfMemory>
-    ensures text { OnOk result (text.new ≡ text.old ++ printed_lines (group_lines [] history.now)) }
+    ensures text { OnOk result (text.new ≡ text.old ++ printed_lines (group_lines (unshut []) history.now)) }
     ensures in_range { OnOk result (All IsGroupInRange history.now) }
 {
     let mut queue = Fifo::new(alloc);
@@ -89,9 +92,11 @@ fn print_op(text: &mut Text, op: Op, answer: Answer) -> Result<(), OutOfMemory>
 {
     let mut buffer = Buffer::new();
     match (op, answer) {
+        (Op::Enq(v), Answer::Refused) => text.append_parts(&[b" x", buffer.format(v).as_bytes()]),
         (Op::Enq(v), _) => text.append_parts(&[b" e", buffer.format(v).as_bytes()]),
         (Op::Deq, Answer::Got(v)) => text.append_parts(&[b" d", buffer.format(v).as_bytes()]),
         (Op::Deq, _) => text.append_parts(&[b" d-"]),
+        (Op::Shut, _) => text.append_parts(&[b" s"]),
     }
 }
 

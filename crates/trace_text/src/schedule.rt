@@ -1,5 +1,6 @@
 // What the lines of a schedule do, one after another.
-ghost use Rattle.std.specs.Prelude.{◌≡◌, ◌<◌, true, None, Some, IfSome, IfOk, MatchOption};
+ghost use Rattle.std.specs.Prelude.{◌≡◌, ◌≢◌, ◌<◌, true, None, Some, IfSome, IfOk, MatchOption};
+ghost use Rattle.bq_model.specs.NoShut.{NoShut};
 ghost use Rattle.text_lines.specs.Refusals.{ReadsPart};
 ghost use Rattle.trace_text.specs.Shapes.{shape_with};
 ghost use Rattle.trace_text.specs.ScheduleText.{shape_of, shape_in, caller_of, is_op_word, op_of, op_words_of, ops_of, is_startable};
@@ -210,6 +211,7 @@ fn shape_with(callers: u64, batch: u64, room: u64, allowance: u64, first: u64) -
 fn read_ops(alloc: Global, words: Words) -> Result<Ops, LineRefused>
     ensures ops { ReadsPart (ops_of words.entry) result }
     ensures startable { IfOk result (λ ops. is_startable ops ≡ true) }
+    ensures no_shut { IfOk result (λ ops. NoShut ops) }
 {
     let ops = read_op_words(alloc, words)?;
     if ops.len() == 0 {
@@ -220,7 +222,8 @@ fn read_ops(alloc: Global, words: Words) -> Result<Ops, LineRefused>
 
 // A wrong letter comes before a wrong number.
 fn read_op_words(alloc: Global, words: Words) -> Result<Ops, LineRefused>
-    ensures { ReadsPart (op_words_of words.entry) result }
+    ensures ops { ReadsPart (op_words_of words.entry) result }
+    ensures no_shut { IfOk result (λ ops. NoShut ops) }
 {
     let mut ops = Ops::new(alloc);
     let mut right = true;
@@ -246,7 +249,8 @@ fn is_op_word(word: &[u8]) -> bool
 }
 
 fn read_op(word: &[u8]) -> Option<Op>
-    ensures { result ≡ op_of word.now }
+    ensures op { result ≡ op_of word.now }
+    ensures no_shut { IfSome result (λ op. op ≢ Op.Shut) }
 {
     let [letter, rest @ ..] = word else {
         return None;

@@ -1,5 +1,6 @@
 use Rattle.std.proofs.Common.{◌≡◌, true, false, None}
 use Rattle.std.specs.List.{list_all}
+use Rattle.bq_model.specs.NoShut.{NoShut}
 use Rattle.trace_text.specs.ScheduleText.{is_op_word, op_of}
 use Rattle.text_lines.specs.Each.{each_of}
 use Rattle.text_lines.proofs.EachLemmas.{onto}
@@ -11,4 +12,5 @@ invariant-loop-word l = record {
   letters : list_all is_op_word l.word-iterator ≡ list_all is_op_word l.fn.words;
   right : l.right ≡ true → onto l.ops (each_of op_of l.word-iterator) ≡ each_of op_of l.fn.words;
   wrong : l.right ≡ false → None ≡ each_of op_of l.fn.words;
+  no_shut : NoShut l.ops;
 }
