@@ -1,5 +1,8 @@
 -- The list of rows, the queue and the announcements, with the chain of an announcement linked.
 use Rattle.std.proofs.Common.{◌≡◌, ◌≢◌, ℕ, suc, ◌+◌, ◌-◌, ◌<◌, ◌≤◌, Bool, true, false, [], ◌∷◌, ◌++◌, length, drop, sym, refl, ap, ◌∙◌, subst, arith, eq-eqb, ne_eqb, ◌⊎◌, ⊎_elim, inl, inr, Option, Some, None}
+use Rattle.bq_model.specs.Replay.{queue_from}
+use Rattle.bq_model.proofs.Values.{all_enter}
+use Rattle.bq_model.specs.Queue.{Queue, queue_of, unshut}
 use mathlib.Core.Logic.{dite}
 use native.Mathlib.Decide.{ℕ_discrete, dec_le}
 use Rattle.bq_model.specs.declared.group.Group.{Group}
@@ -329,14 +332,17 @@ module _ (K : Linking) where
   abbrev pub v' : ℕ → ℕ
   v' i = s.memory.value (path' i)
 
-  pub queue_was : last_queue s.history ≡ run (λ i. s.memory.value (G.path i)) (suc G.head) G.rest
+  pub queue_was : last_queue s.history ≡ unshut (run (λ i. s.memory.value (G.path i)) (suc G.head) G.rest)
   queue_was = decision.waiting_queue z s L h.ann (L.ghost.head + L.ghost.rest) len waits
 
-  pub length_queue : length (last_queue s.history) ≡ G.rest
-  length_queue = ap length queue_was ∙ length-run (λ i. s.memory.value (G.path i)) (suc G.head) G.rest
+  pub flag_is : (last_queue s.history).shut ≡ false
+  flag_is = ap (λ (q : Queue). q.shut) queue_was
 
-  pub all_values : values_from (last_queue s.history) ko.ops ≡ run v' (suc G.head) (G.rest + enqs)
-  all_values = (λ i. queue_was i ++ P.values i) ∙ sym (run_parted v' (suc G.head) G.rest enqs
+  pub length_queue : length (last_queue s.history).values ≡ G.rest
+  length_queue = ap (λ (q : Queue). length q.values) queue_was ∙ length-run (λ i. s.memory.value (G.path i)) (suc G.head) G.rest
+
+  pub all_values : values_from (last_queue s.history).values ko.ops ≡ run v' (suc G.head) (G.rest + enqs)
+  all_values = (λ i. (queue_was i).values ++ P.values i) ∙ sym (run_parted v' (suc G.head) G.rest enqs
       ∙ (λ i. run_same v' (λ j. s.memory.value (G.path j)) (suc G.head) G.rest (λ j above below. ap s.memory.value (old_path j (omega arith))) i
       ++ run_moved v' (λ j. s.memory.value (G.chain j)) (suc G.head + G.rest) 0 enqs (λ x below. ap s.memory.value (new_path (suc G.head + G.rest + x) x (omega arith)) ∙ ap (λ (y : ℕ). s.memory.value (G.chain y)) (let f : x ≡ 0 + x = omega arith in f)) i))
 
@@ -346,18 +352,19 @@ module _ (K : Linking) where
       (λ none. let x = passes_none none in let a = x.0 in let b = x.1 in let l = x.2 in ap (run f (suc G.head + got)) (let e : G.rest + enqs - got ≡ 0 = omega arith in e) ∙ sym (ap (run f (suc (G.head + m))) (let e : left ≡ 0 = omega arith in e)))
       (λ more. let x = passes_some (omega arith) in let a = x.0 in let l = x.1 in λ i. run f ((let e : suc G.head + got ≡ suc (G.head + m) = omega arith in e) i) ((let e : G.rest + enqs - got ≡ left = omega arith in e) i))
 
-  values_left : last_queue (s.history ++ own ∷ []) ≡ run v' (suc G.head + got) (G.rest + enqs - got)
-  values_left = last_queue-push s.history own ∙ (queue_from-counted (s.memory.notice a).counts ko.ops (last_queue s.history) G.rest counts_are length_queue
-      ∙ (ap (drop got) all_values ∙ drop-run v' (suc G.head) (G.rest + enqs) got within_got))
+  values_left : last_queue (s.history ++ own ∷ []) ≡ unshut (run v' (suc G.head + got) (G.rest + enqs - got))
+  values_left = last_queue-push s.history own ∙ (ap (λ (b : Bool). queue_from (queue_of (last_queue s.history).values b) ko.ops) flag_is
+      ∙ (queue_from-counted (s.memory.notice a).counts ko.ops (last_queue s.history).values G.rest T.plain counts_are length_queue
+      ∙ ap unshut (ap (drop got) all_values ∙ drop-run v' (suc G.head) (G.rest + enqs) got within_got)))
 
-  pub queue' : last_queue (s.history ++ own ∷ []) ≡ shown_queue s.memory.value G'
-  queue' = values_left ∙ left_over v'
+  pub queue' : last_queue (s.history ++ own ∷ []) ≡ unshut (shown_queue s.memory.value G')
+  queue' = values_left ∙ ap unshut (left_over v')
 
   -- the homes of the rows from the dummy on: the owner has enqueued the values of its own ones
   abbrev h' : ℕ → ℕ
   h' i = z.home (path' i)
 
-  all_owners : queue_owners s.history ++ enqueuers o ko.ops ≡ run h' (suc G.head) (G.rest + enqs)
+  all_owners : queue_owners s.history ++ enqueuers o false ko.ops ≡ run h' (suc G.head) (G.rest + enqs)
   all_owners = (λ i. was i ++ new i) ∙ sym (run_parted h' (suc G.head) G.rest enqs) where
     was : queue_owners s.history ≡ run h' (suc G.head) G.rest
     was = decision.waiting_owners z s L h.ann (L.ghost.head + L.ghost.rest) len waits ∙ run_same (λ i. z.home (G.path i)) h' (suc G.head) G.rest (λ j above below. ap z.home (sym (old_path j (omega arith))))
@@ -365,15 +372,15 @@ module _ (K : Linking) where
     in_chain : (x : ℕ) → x < enqs → x < len
     in_chain x below = let l = (passes_some (omega arith)).1 in omega arith
 
-    new : enqueuers o ko.ops ≡ run h' (suc G.head + G.rest) enqs
-    new = ap (run (λ _. o) 0) (ap length P.values ∙ length-run (λ i. s.memory.value (G.chain i)) 0 enqs)
+    new : enqueuers o false ko.ops ≡ run h' (suc G.head + G.rest) enqs
+    new = ap (run (λ _. o) 0) (ap length (all_enter ko.ops T.plain ∙ P.values) ∙ length-run (λ i. s.memory.value (G.chain i)) 0 enqs)
         ∙ run_moved (λ _. o) h' 0 (suc G.head + G.rest) enqs (λ x below. sym (ap z.home (new_path (suc G.head + G.rest + x) x (omega arith)) ∙ P.homes x (in_chain x below)))
 
   pub owners' : queue_owners (s.history ++ own ∷ []) ≡ shown_owners z.home G'
-  owners' = owners_follow v' h' s.history own (suc G.head) (G.rest + enqs) (suc G.head + got) (G.rest + enqs - got) (omega arith) (let g = within_got in omega arith) values_left all_owners ∙ left_over h'
+  owners' = owners_follow v' h' s.history own (suc G.head) (G.rest + enqs) (suc G.head + got) (G.rest + enqs - got) (omega arith) (let g = within_got in omega arith) false flag_is (ap (λ (q : Queue). q.values) values_left) all_owners ∙ left_over h'
 
   pub counts' : G.head + (G.rest + len) ≤ length (operations (s.history ++ own ∷ []))
-  counts' = let made = L.list.counts in let all = length-operations-push s.history own in let k = ap (λ (y : Counts). y.enqs) T.describes.counts in let parts = count-ops ko.ops in let ops = T.several in
+  counts' = let made = L.list.counts in let all = length-operations-push s.history own in let k = ap (λ (y : Counts). y.enqs) T.describes.counts in let parts = count-ops ko.ops T.plain in let ops = T.several in
       dite (ℕ_discrete enqs 0) (λ none. let one = (passes_none none).2 in omega arith) (λ more. let l = (passes_some (omega arith)).1 in omega arith)
 
   pub rest_is : e - G.head ≡ G.rest

@@ -5,12 +5,13 @@ use Rattle.std.proofs.lemmas.List.Elements.{All-filter}
 use Rattle.std.proofs.Math.Pow.{pow_mono}
 use Rattle.bq_model.specs.declared.group.Group.{Group}
 use Rattle.bq_model.specs.declared.op.Op.{Op}
-use Rattle.bq_model.specs.declared.op.Op.TheVariants.{Enq, Deq}
+use Rattle.bq_model.specs.declared.op.Op.TheVariants.{Enq, Deq, Shut}
 use Rattle.bq_model.specs.declared.shape.Shape.{Shape}
 use Rattle.bq_model.specs.History.{operations}
 use Rattle.excess_count.specs.Excess.{enqueue_count, dequeue_count, excess_of}
 use Rattle.bq_model.specs.Values.{enqueued}
-use Rattle.excess_count.proofs.ExcessLaws.{excess_of-le, count-ops}
+use Rattle.core_model.proofs.Excess.{counted_most}
+use Rattle.excess_count.proofs.ExcessLaws.{excess_of-le}
 use Rattle.word_rows.specs.declared.location.AnnField.{AnnField}
 use Rattle.word_rows.specs.declared.location.AnnField.TheVariants.{OldHead, OldTail, First, Last, Counts, BatchNo, Order0, Order1, Order2, Order3}
 use Rattle.word_rows.specs.declared.location.Location.{Location}
@@ -79,14 +80,14 @@ module _ (key : Shape) (s : State) (L : Lawful (lane_sizes key) s) (R : IsCoded 
 
   -- the caller's next batch number is below its allowance
   batch_fits : (n : ℕ) → 0 < n → ¬ (PassesAllowance z (s.callers c) n) → length (s.callers c).mine < key.allowance
-  batch_fits n some left = let filled : All (λ (g : Group). g.ops ≢ []) (s.callers c).mine = subst (All (λ (g : Group). g.ops ≢ [])) (idle_groups z s L c idle) (All-filter (λ g. _) (λ (g : Group). g.ops ≢ []) s.history L.history.filled) in
+  batch_fits n some left = let filled : All (λ (g : Group). g.ops ≢ []) (s.callers c).mine = subst (All (λ (g : Group). g.ops ≢ [])) (idle_groups z s L c idle) (All-filter (λ g. _) (λ (g : Group). g.ops ≢ []) s.history L.history.proper.filled) in
       by (le_operations (s.callers c).mine filled) left where
         by : length (s.callers c).mine ≤ length (operations (s.callers c).mine) → ¬ (PassesAllowance z (s.callers c) n) → length (s.callers c).mine < key.allowance
         by few left = omega arith
 
   module _ (ops : List Op) (is : IsCommand ops) (left : ¬ (PassesAllowance z (s.callers c) (length ops))) (short : length ops ≤ key.batch) (values : (j : ℕ) → get_or (enqueued ops) j 0 < 2 ^ 64) where
     counts_fit : (enqueue_count ops < 2 ^ 16) × (dequeue_count ops < 2 ^ 16) × (excess_of ops < 2 ^ 16)
-    counts_fit = let all = count-ops ops in let x = excess_of-le ops in let most : key.batch ≤ 256 = key.some_batch.1 in let few = short in (omega arith, omega arith, omega arith)
+    counts_fit = let all = counted_most ops in let x = excess_of-le ops in let most : key.batch ≤ 256 = key.some_batch.1 in let few = short in (omega arith, omega arith, omega arith)
 
     -- what a batch is to say, before it has rows
     draft_fits : NoticeFits key (draft_of c (s.callers c) ops)
@@ -95,7 +96,7 @@ module _ (key : Shape) (s : State) (L : Lawful (lane_sizes key) s) (R : IsCoded 
       first = omega arith;
       last = omega arith;
       counts = counts_fit;
-      number = ((batch_fits (length ops) is left), at);
+      number = ((batch_fits (length ops) is.0 left), at);
       order0 = order_fits ops 0;
       order1 = order_fits ops 1;
       order2 = order_fits ops 2;
@@ -110,6 +111,7 @@ module _ (key : Shape) (s : State) (L : Lawful (lane_sizes key) s) (R : IsCoded 
     point_fits [] e = tt
     point_fits (Enq v ∷ []) e = search_fits key L.sizes c at (taking.Enqueue v) (subst (λ (ys : List Op). get_or (enqueued ys) 0 0 < 2 ^ 64) (sym e) (values 0))
     point_fits (Deq ∷ []) e = tt
+    point_fits (Shut ∷ []) e = tt
     point_fits (op ∷ op' ∷ xs) e = subst (λ (ys : List Op). PointFits key (batch_point z c ys (draft_of c (s.callers c) ys) (eqb (enqueue_count ys) 0))) (sym e) (many_fit (eqb (enqueue_count ops) 0))
 
     pub start_coded : IsCoded key (start (lane_sizes key) s c ops)

@@ -1,6 +1,7 @@
 -- A help of dequeues alone that finds enough values before the tail decides the batch: the group of its owner joins the
 -- history, and no row is linked.
 use Rattle.std.proofs.Common.{◌≡◌, ◌≢◌, inr, ℕ, suc, ◌+◌, ◌<◌, ◌≤◌, [], ◌∷◌, ◌++◌, take, sym, refl, ap, ◌∙◌, subst, arith, le_refl, ◌-◌, List, length, drop, Option, Some, None, inl, ltb, Bool, true, false}
+use Rattle.bq_model.specs.Queue.{Queue, queue_of, unshut}
 use Rattle.std.proofs.lemmas.List.{append-nil}
 use Rattle.bq_model.specs.History.{last_queue}
 use Rattle.excess_count.specs.Got.{values_from}
@@ -23,7 +24,7 @@ use Rattle.core_model.specs.Facts.{Linearized, Effect, Holds}
 use Rattle.core_model.specs.Rows.{Takes, Debts, IsLoose, OwnRows}
 use Rattle.core_model.specs.Ghost.{unused, decided, On, Stage, waiting, Ghost, World, at}
 use Rattle.core_model.specs.Lawful.{queue_owners, Told, Lawful, InOrder, Bound, Standing, Announced, Headed, Pending}
-use Rattle.core_model.proofs.Owners.{owners_leave}
+use Rattle.core_model.proofs.Owners.{owners_leave, none_enter}
 use Rattle.core_model.proofs.Puts.{put_here, put_else}
 use Rattle.core_model.proofs.Groups.{length-operations-push}
 use Rattle.core_model.proofs.Runs.{take-run, length-run, drop-run}
@@ -37,7 +38,7 @@ use Rattle.bq_model.specs.declared.group.Group.{Group}
 use Rattle.bq_model.proofs.Histories.{last_queue-push}
 use Rattle.excess_count.specs.Excess.{enqueue_count, excess_of}
 use Rattle.excess_count.proofs.ExcessLaws.{count-ops}
-use Rattle.excess_count.proofs.ReplayLaws.{queue_from-counted}
+use Rattle.excess_count.proofs.ReplayLaws.{queue_from-counted, queue_from-plain}
 use Rattle.word_rows.specs.declared.location.AnnField.TheVariants as field
 use Rattle.core_model.proofs.Counting.{stopper_none, linked_few}
 use Rattle.core_model.proofs.Excess.{all_excess, none_enqueued}
@@ -110,7 +111,7 @@ module _ (z : LaneSizes) (s : State) (L : Lawful z s) (c : ℕ) (h : Help) (p : 
   excess_is = all_excess ko.ops no_enqueue ∙ sym (ap (λ (k : Counts). k.deqs) T.describes.counts)
 
   some : 0 < many
-  some = let all = count-ops ko.ops in let e = no_enqueue in let d = ap (λ (k : Counts). k.deqs) T.describes.counts in let ops = T.several in omega arith
+  some = let all = count-ops ko.ops T.plain in let e = no_enqueue in let d = ap (λ (k : Counts). k.deqs) T.describes.counts in let ops = T.several in omega arith
 
   -- so many rows and more lie behind the dummy up to that tail
   far : G.head + many ≤ i
@@ -169,24 +170,25 @@ module _ (z : LaneSizes) (s : State) (L : Lawful z s) (c : ℕ) (h : Help) (p : 
   abbrev value_at : ℕ → ℕ
   value_at j = s.memory.value (L.ghost.path j)
 
-  queue_was : last_queue s.history ≡ run value_at (suc G.head) G.rest
+  queue_was : last_queue s.history ≡ unshut (run value_at (suc G.head) G.rest)
   queue_was = decision.waiting_queue z s L h.ann on.position 0 waits
 
-  length_queue : length (last_queue s.history) ≡ G.rest
-  length_queue = ap length queue_was ∙ length-run value_at (suc G.head) G.rest
+  length_queue : length (last_queue s.history).values ≡ G.rest
+  length_queue = ap (λ (q : Queue). length q.values) queue_was ∙ length-run value_at (suc G.head) G.rest
 
-  all_values : values_from (last_queue s.history) ko.ops ≡ run value_at (suc G.head) G.rest
-  all_values = ap (λ (vs : List ℕ). last_queue s.history ++ vs) (none_enqueued ko.ops no_enqueue) ∙ (append-nil (last_queue s.history) ∙ queue_was)
+  all_values : values_from (last_queue s.history).values ko.ops ≡ run value_at (suc G.head) G.rest
+  all_values = ap (λ (vs : List ℕ). (last_queue s.history).values ++ vs) (none_enqueued ko.ops no_enqueue) ∙ (append-nil (last_queue s.history).values ∙ ap (λ (q : Queue). q.values) queue_was)
 
   within : many ≤ G.rest
   within = let f = far in let b = inside in omega arith
 
-  queue' : last_queue (s.history ++ own ∷ []) ≡ run value_at (suc (G.head + many)) (G.rest - many)
-  queue' = last_queue-push s.history own ∙ (queue_from-counted (s.memory.notice a).counts ko.ops (last_queue s.history) G.rest T.describes.counts length_queue
-      ∙ ((λ k. drop (got_now k) (all_values k)) ∙ (drop-run value_at (suc G.head) G.rest many within ∙ ap (λ (j : ℕ). run value_at j (G.rest - many)) (let f : suc G.head + many ≡ suc (G.head + many) = omega arith in f))))
+  queue' : last_queue (s.history ++ own ∷ []) ≡ unshut (run value_at (suc (G.head + many)) (G.rest - many))
+  queue' = last_queue-push s.history own ∙ (queue_from-plain (last_queue s.history) ko.ops T.plain (inr no_enqueue)
+      ∙ ((λ k. queue_of (queue_from-counted (s.memory.notice a).counts ko.ops (last_queue s.history).values G.rest T.plain T.describes.counts length_queue k).values (queue_was k).shut)
+      ∙ ap unshut ((λ k. drop (got_now k) (all_values k)) ∙ (drop-run value_at (suc G.head) G.rest many within ∙ ap (λ (j : ℕ). run value_at j (G.rest - many)) (let f : suc G.head + many ≡ suc (G.head + many) = omega arith in f)))))
 
   owners' : queue_owners (s.history ++ own ∷ []) ≡ run (λ j. z.home (G.path j)) (suc (G.head + many)) (G.rest - many)
-  owners' = owners_leave value_at (λ j. z.home (G.path j)) s.history own (suc G.head) G.rest (suc (G.head + many)) (G.rest - many) (omega arith) (let w = within in omega arith) queue' (none_enqueued ko.ops no_enqueue) (decision.waiting_owners z s L h.ann on.position 0 waits)
+  owners' = owners_leave value_at (λ j. z.home (G.path j)) s.history own (suc G.head) G.rest (suc (G.head + many)) (G.rest - many) (omega arith) (let w = within in omega arith) (last_queue s.history).shut refl (ap (λ (q : Queue). q.values) queue') (none_enter (last_queue s.history).shut ko.ops (none_enqueued ko.ops no_enqueue)) (decision.waiting_owners z s L h.ann on.position 0 waits)
 
   headed' : Headed z.first s.memory.head G.path G.head G.rest G.ann many (G.rest - many)
   headed' = record { named = L.list.head.named; none = λ no. absurd (some_none (sym at_head ∙ no)); fits = let w = within in omega arith }
@@ -224,12 +226,14 @@ module _ (z : LaneSizes) (s : State) (L : Lawful z s) (c : ℕ) (h : Help) (p : 
     stands = sym (append-nil (s.history ++ own ∷ []));
     since_start = (L.callers o).knows.started;
     counts = T.describes.counts;
+    plain = T.plain;
+    unhindered = inr no_enqueue;
     dummy = G.head;
     old_head = L.announced.old_head a at_head;
     before = let f = far in omega arith;
     no_shorter = let l = length_queue in let b = inside in omega arith;
     length_queue = inr (let ex = excess_is in let f = far in omega arith);
-    values = subst (λ (n : ℕ). take n (values_from (last_queue s.history) ko.ops) ≡ run value_at (suc G.head) n) (sym all_got) (ap (take many) all_values ∙ take-run value_at (suc G.head) G.rest many within);
+    values = subst (λ (n : ℕ). take n (values_from (last_queue s.history).values ko.ops) ≡ run value_at (suc G.head) n) (sym all_got) (ap (take many) all_values ∙ take-run value_at (suc G.head) G.rest many within);
     inside = let all = passes_all in let w = within in omega arith;
     rows = λ x le _. on_list x (let g = all_got in omega arith);
     to_pass = λ x below. pass_owed z s L bare o many 0 (G.head + x) (omega arith) (let all = passes_all in omega arith);

@@ -1,5 +1,6 @@
 -- An announcement is decided, by a link or without one: the command of its owner takes effect, whoever makes the step.
-use Rattle.std.proofs.Common.{◌≡◌, ◌≢◌, ◌⊎◌, inl, inr, ⊎_elim, ℕ, suc, ◌+◌, ◌-◌, ◌<◌, ◌≤◌, Bool, true, false, cond, [], ◌∷◌, ◌++◌, sym, refl, ap, ◌∙◌, subst, arith, le_refl, Option, Some, None, length}
+use Rattle.std.proofs.Common.{List, ◌≡◌, ◌≢◌, ◌⊎◌, inl, inr, ⊎_elim, ℕ, suc, ◌+◌, ◌-◌, ◌<◌, ◌≤◌, Bool, true, false, cond, [], ◌∷◌, ◌++◌, sym, refl, ap, ◌∙◌, subst, arith, le_refl, Option, Some, None, length}
+use Rattle.bq_model.specs.Queue.{unshut}
 use mathlib.Core.Logic.{dite}
 use native.Mathlib.Decide.{ℕ_discrete}
 use Rattle.bq_model.specs.History.{last_queue}
@@ -152,8 +153,8 @@ module _ (z : LaneSizes) (s : State) (L : Lawful z s) (a i n : ℕ) (waits : L.g
   all_shown : (f : ℕ → ℕ) → run f (suc (L.ghost.head + L.ghost.shown)) L.ghost.queued ≡ run f (suc L.ghost.head) L.ghost.rest
   all_shown f = let none = bare in let fits = L.list.head.fits in λ k. run f (suc ((let e : g.head + g.shown ≡ g.head = omega arith in e) k)) ((let e : g.queued ≡ g.rest = omega arith in e) k)
 
-  pub waiting_queue : last_queue s.history ≡ run (λ j. s.memory.value (L.ghost.path j)) (suc L.ghost.head) L.ghost.rest
-  waiting_queue = L.queue ∙ all_shown (λ j. s.memory.value (L.ghost.path j))
+  pub waiting_queue : last_queue s.history ≡ unshut (run (λ j. s.memory.value (L.ghost.path j)) (suc L.ghost.head) L.ghost.rest)
+  waiting_queue = L.queue ∙ ap unshut (all_shown (λ j. s.memory.value (L.ghost.path j)))
 
   pub waiting_owners : queue_owners s.history ≡ run (λ j. z.home (L.ghost.path j)) (suc L.ghost.head) L.ghost.rest
   waiting_owners = L.owners ∙ all_shown (λ j. z.home (L.ghost.path j))
@@ -269,7 +270,7 @@ module _ (z : LaneSizes) (s : State) (L : Lawful z s) (a i n : ℕ) (waits : L.g
           ⊎ ((L.ghost.head ≤ j) × ((s.memory.mark r).free ≡ false) × ((s.memory.mark r).passed ≡ false) × ((s.memory.mark r).read ≡ is_paid (owed_reader L.ghost.reader L.ghost.head (owner_of z a) got stops j))))
           → (Takes z (world s L.ghost) (owner_of z a) (s.callers (owner_of z a)).rows × Debts z (world s L.ghost) (owner_of z a) [] [] × Distinct (s.callers (owner_of z a)).rows
           → Effect z decided_world (owner_of z a) a i (s.callers (owner_of z a)).started_at (own_group (owner_of z a) (s.callers (owner_of z a))) (s.callers (owner_of z a)).rows)
-          → last_queue (s.history ++ own_group (owner_of z a) (s.callers (owner_of z a)) ∷ []) ≡ shown_queue s.memory.value decided_ghost
+          → last_queue (s.history ++ own_group (owner_of z a) (s.callers (owner_of z a)) ∷ []) ≡ unshut (shown_queue s.memory.value decided_ghost)
           → queue_owners (s.history ++ own_group (owner_of z a) (s.callers (owner_of z a)) ∷ []) ≡ shown_owners z.home decided_ghost
           → InOrder z decided_memory (s.history ++ own_group (owner_of z a) (s.callers (owner_of z a)) ∷ []) decided_ghost
           → Announced z decided_memory decided_ghost
@@ -279,7 +280,7 @@ module _ (z : LaneSizes) (s : State) (L : Lawful z s) (a i n : ℕ) (waits : L.g
         ghost = decided_ghost;
         sizes = L.sizes;
         marks = marked_owed z s L bare owner got stops decided_memory (s.history ++ group ∷ []) decided_ghost (le_refl _) (ap (λ (y : ℕ). g.head + y) shows) last new_rows;
-        history = joins_proper z s L owner waiting_rows.not_yet waiting_rows.known some_ops;
+        history = joins_proper z s L owner waiting_rows.not_yet waiting_rows.known some_ops told_now.plain;
         queue = queue;
         owners = owners;
         list = list;
@@ -304,6 +305,7 @@ module _ (z : LaneSizes) (s : State) (L : Lawful z s) (a i n : ℕ) (waits : L.g
         told_after = record {
           describes = told_now.describes;
           several = told_now.several;
+          plain = told_now.plain;
           first = told_now.first;
           last = told_now.last;
           helps = told_now.helps;

@@ -2,6 +2,8 @@
 use Rattle.std.proofs.Common.{◌≡◌, ℕ, suc, ◌+◌, ◌<◌, ◌≤◌, Bool, true, false, cond, List, [], ◌∷◌, ◌++◌, length, sym, refl, ap, ◌∙◌, subst, arith, ◌≢◌, eqb, eq-eqb, ◌-◌}
 use Rattle.bq_model.specs.declared.op.Op.TheVariants.{Deq}
 use Rattle.bq_model.specs.declared.op.Answer.TheVariants.{Got, Empty}
+use Rattle.bq_model.specs.Queue.{Queue, unshut}
+use Rattle.bq_model.specs.NoShut.{NoShut}
 use Rattle.bq_model.specs.Values.{enqueued}
 use Rattle.bq_model.specs.declared.group.Group.{Group}
 use Rattle.bq_model.specs.Replay.{answers_from, queue_from}
@@ -33,7 +35,8 @@ use native.Mathlib.Decide.{dec_le}
 use Rattle.lane_steps.specs.Help.{help_of}
 use Rattle.lane_steps.specs.declared.point.DequeuePoint.{DequeuePoint}
 use Rattle.core_model.proofs.Tails.{exchanges, with_memory}
-use Rattle.core_model.proofs.Lookups.{next_found, node_found}
+use Rattle.core_model.proofs.Lookups.{next_found, node_found, is_last}
+use Rattle.core_model.proofs.Owners.{none_enter}
 use Rattle.core_model.proofs.Losses.{no_rows}
 use Rattle.lane_steps.specs.declared.point.ClosePoint.TheVariants as close
 use Rattle.lane_steps.specs.declared.point.Guarding.TheVariants as guard
@@ -117,10 +120,10 @@ module _ (z : LaneSizes) (s : State) (L : Lawful z s) (c : ℕ) where
   -- HEAD moves by one row
   moved : (p : Place) (n v : ℕ) → AtPoint z (world s L.ghost) c (s.callers c) (point.Dequeue (deq.MoveHead p n v)) → s.memory.head ≡ Node p
       → Lawful z (changed s c (record s.memory { head = Node (behind p n) }) (s.history ++ own_group c (s.callers c) ∷ []) (record (s.callers c) { point = point.Close (Plain (Got v)) (close.MarkRow p false true false); walked = n ∷ [] }))
-  moved p n v f head = head_moved z s L c p n 1 (n ∷ []) (Plain (Got v)) refl (bare f.call).0 (bare f.call).1 op.1 (some_ops f.call) (ap enqueued op.0) head (omega arith) refl (ap (λ (r : ℕ). r ∷ []) (sym (next.there G.head count).1)) (let l = there.0 in omega arith)
+  moved p n v f head = head_moved z s L c p n 1 (n ∷ []) (Plain (Got v)) refl (bare f.call).0 (bare f.call).1 op.1 (some_ops f.call) (subst NoShut (sym op.0) tt) (ap enqueued op.0) head (omega arith) refl (ap (λ (r : ℕ). r ∷ []) (sym (next.there G.head count).1)) (let l = there.0 in omega arith)
       (sym (next.there G.head count).1 ∙ ap G.path (let e : suc G.head ≡ G.head + 1 = omega arith in e)) (let l = f.here.1.0 in let cnt = count in omega arith)
-      (ap (λ (q : List ℕ). answers_from q (Deq ∷ [])) (sym queue_was) ∙ ap (answers_from (last_queue s.history)) (sym op.0))
-      (ap (queue_from (last_queue s.history)) op.0 ∙ (ap (λ (q : List ℕ). queue_from q (Deq ∷ [])) queue_was ∙ ap (λ (j : ℕ). run value_at j (G.rest - 1)) (let e : suc (suc G.head) ≡ suc G.head + 1 = omega arith in e))) where
+      (ap (λ (q : Queue). answers_from q (Deq ∷ [])) (sym queue_was) ∙ ap (answers_from (last_queue s.history)) (sym op.0))
+      (ap (queue_from (last_queue s.history)) op.0 ∙ (ap (λ (q : Queue). queue_from q (Deq ∷ [])) queue_was ∙ ap (λ (j : ℕ). unshut (run value_at j (G.rest - 1))) (let e : suc (suc G.head) ≡ suc G.head + 1 = omega arith in e))) where
         op : Holds z (world s L.ghost) c (is_op (s.callers c).ops (s.callers c).rows Deq)
         op = f.call.1.0
 
@@ -136,8 +139,8 @@ module _ (z : LaneSizes) (s : State) (L : Lawful z s) (c : ℕ) where
         there : (0 < G.rest) × (value_at (suc G.head) ≡ v)
         there = (third f.here).1 count
 
-        queue_was : last_queue s.history ≡ v ∷ run value_at (suc (suc G.head)) (G.rest - 1)
-        queue_was = bare_queue z s L c (node_found z s L c p head).0 ∙ (ap (run value_at (suc G.head)) (let l = there.0 in let e : G.rest ≡ suc (G.rest - 1) = omega arith in e) ∙ ap (λ (y : ℕ). y ∷ run value_at (suc (suc G.head)) (G.rest - 1)) there.1)
+        queue_was : last_queue s.history ≡ unshut (v ∷ run value_at (suc (suc G.head)) (G.rest - 1))
+        queue_was = bare_queue z s L c (node_found z s L c p head).0 ∙ (ap (λ (n : ℕ). unshut (run value_at (suc G.head) n)) (let l = there.0 in let e : G.rest ≡ suc (G.rest - 1) = omega arith in e) ∙ ap (λ (y : ℕ). unshut (y ∷ run value_at (suc (suc G.head)) (G.rest - 1))) there.1)
 
   move_head : (p : Place) (n v : ℕ) (x : HeadWord) → s.memory.head ≡ x → (b : Bool) → is_node x p ≡ b → AtPoint z (world s L.ghost) c (s.callers c) (point.Dequeue (deq.MoveHead p n v))
       → Lawful z (changed s c (write s.memory Head (cond b (OfHead (Node (behind p n))) (OfHead x))) (history_after b s.history own)
@@ -150,18 +153,19 @@ module _ (z : LaneSizes) (s : State) (L : Lawful z s) (c : ℕ) where
   preserves_move_head p n v is = move_head p n v s.memory.head refl (is_node s.memory.head p) refl (known z s L c (point.Dequeue (deq.MoveHead p n v)) is)
 
   -- the queue is empty: the command takes effect and ends
-  empty : (p : Place) → s.memory.link p.row ≡ Nil → AtPoint z (world s L.ghost) c (s.callers c) (point.Dequeue (deq.LoadLink p)) → Lawful z (step_with z s c (point.Dequeue (deq.LoadLink p)) (OfLink Nil))
-  empty p nil f = subst (λ (m : Memory). Lawful z (changed s c m (s.history ++ own ∷ []) (closes (length (s.history ++ own ∷ [])) c (s.callers c) (Plain Empty)))) (sym (ap (write s.memory (Link p.row)) (ap OfLink (sym nil)) ∙ write_read s.memory (Link p.row)))
-      (found_empty z s L c (Plain Empty) refl (bare f.call).0 (bare f.call).1 op.1 (some_ops f.call) (ap enqueued op.0) (ap (λ (q : List ℕ). answers_from q (Deq ∷ [])) (sym none) ∙ ap (answers_from (last_queue s.history)) (sym op.0))
-      (ap (queue_from (last_queue s.history)) op.0 ∙ (ap (λ (q : List ℕ). queue_from q (Deq ∷ [])) none ∙ sym none))) where
+  empty : (p : Place) (x : LinkWord) → s.memory.link p.row ≡ x → (f : AtPoint z (world s L.ghost) c (s.callers c) (point.Dequeue (deq.LoadLink p))) → f.here.0.position ≡ L.ghost.head + L.ghost.rest
+      → Lawful z (changed s c (write s.memory (Link p.row) (OfLink x)) (s.history ++ own_group c (s.callers c) ∷ []) (closes (length (s.history ++ own_group c (s.callers c) ∷ [])) c (s.callers c) (Plain Empty)))
+  empty p x is f at_end = subst (λ (m : Memory). Lawful z (changed s c m (s.history ++ own ∷ []) (closes (length (s.history ++ own ∷ [])) c (s.callers c) (Plain Empty)))) (sym (ap (write s.memory (Link p.row)) (ap OfLink (sym is)) ∙ write_read s.memory (Link p.row)))
+      (found_empty z s L c (Plain Empty) refl (bare f.call).0 (bare f.call).1 op.1 (some_ops f.call) (subst NoShut (sym op.0) tt) (none_enter (last_queue s.history).shut (s.callers c).ops (ap enqueued op.0)) (ap (λ (q : Queue). answers_from q (Deq ∷ [])) (sym none) ∙ ap (answers_from (last_queue s.history)) (sym op.0))
+      (ap (queue_from (last_queue s.history)) op.0 ∙ (ap (λ (q : Queue). queue_from q (Deq ∷ [])) none ∙ sym none))) where
         op : Holds z (world s L.ghost) c (is_op (s.callers c).ops (s.callers c).rows Deq)
         op = f.call.1.0
 
-        none : last_queue s.history ≡ []
-        none = none_queued z s L c p f.here.0 f.here.1.0 nil
+        none : last_queue s.history ≡ unshut []
+        none = none_queued z s L c p f.here.0 f.here.1.0 at_end
 
   deq_link : (p : Place) (x : LinkWord) → s.memory.link p.row ≡ x → AtPoint z (world s L.ghost) c (s.callers c) (point.Dequeue (deq.LoadLink p)) → Lawful z (step_with z s c (point.Dequeue (deq.LoadLink p)) (OfLink x))
-  deq_link p Nil is f = empty p is f
+  deq_link p Nil is f = empty p Nil is f (is_last z s L c p f.here.0 is)
   deq_link p (Single n) is f = deq_single p n is f
   deq_link p (Chain n) is f = deq_chain p n is f
   deq_link p Shut is f = deq_shut p is f

@@ -24,7 +24,7 @@ module _ (z : LaneSizes) (s : State) (L : Lawful z s) where
   idle_groups c idle = (L.callers c).own_groups ∙ (ap (λ (b : Bool). (s.callers c).mine ++ cond b (own_group c (s.callers c) ∷ []) []) (known z s L c Idle idle).call.0.0 ∙ append-nil (s.callers c).mine)
 
   pub one_position : (before behind : List Group) (g : Group) → s.history ≡ (before ++ g ∷ []) ++ behind → times g s.history ≡ 1
-  one_position before behind g is = ap (times g) is ∙ stands_once z.callers before behind g (subst (IsProper z.callers) is L.history)
+  one_position before behind g is = ap (times g) is ∙ stands_once z.callers before behind g (subst (IsProper z.callers) is L.history.proper)
 
   pub ended_done : (c : ℕ) → (s.callers c).point ≡ Idle → (s.callers c).outcome ≡ Some Done → EndedDone s c
   ended_done c idle done = let D = (L.callers c).knows.last.done done in let end = some (s.callers c).ended_at ((known z s L c Idle idle).here.0.1 (λ none. never (sym done ∙ none))) in record {

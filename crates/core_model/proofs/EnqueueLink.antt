@@ -5,6 +5,7 @@ use native.Mathlib.Decide.{ℕ_discrete}
 use Rattle.bq_model.specs.declared.op.Op.{Op}
 use Rattle.bq_model.specs.declared.op.Op.TheVariants.{Enq}
 use Rattle.bq_model.specs.declared.group.Group.{Group}
+use Rattle.bq_model.specs.Queue.{Queue, unshut, queue_after, put_answer}
 use Rattle.bq_model.specs.Replay.{answers_from, queue_from}
 use Rattle.bq_model.specs.History.{last_queue}
 use Rattle.bq_model.proofs.Histories.{last_queue-push}
@@ -81,6 +82,9 @@ module _ (z : LaneSizes) (s : State) (L : Lawful z s) (c : ℕ) where
 
     abbrev W : World
     W = record { memory = memory'; history = s.history ++ own ∷ []; ghost = G' }
+
+    flag_is : (last_queue s.history).shut ≡ false
+    flag_is = ap (λ (q : Queue). q.shut) L.queue
 
     end_is : f.position ≡ e
     end_is = is_last z s L c p f nil
@@ -186,16 +190,16 @@ module _ (z : LaneSizes) (s : State) (L : Lawful z s) (c : ℕ) where
       lags = λ _ _. omega arith;
     }
 
-    queue' : last_queue (s.history ++ own ∷ []) ≡ shown_queue s.memory.value G'
-    queue' = last_queue-push s.history own ∙ (ap (queue_from (last_queue s.history)) op.0 ∙ (ap (λ (q : List ℕ). q ++ x.value ∷ [])
-        (L.queue ∙ run_same (λ i. s.memory.value (G.path i)) (λ i. s.memory.value (path' i)) (suc (G.head + G.shown)) G.queued (λ j from below. let fits = L.list.head.fits in ap s.memory.value (sym (old_path j (omega arith)))))
-        ∙ (ap (λ (v : ℕ). run (λ i. s.memory.value (path' i)) (suc (G.head + G.shown)) G.queued ++ v ∷ [])
+    queue' : last_queue (s.history ++ own ∷ []) ≡ unshut (shown_queue s.memory.value G')
+    queue' = last_queue-push s.history own ∙ (ap (queue_from (last_queue s.history)) op.0 ∙ (ap (λ (q : Queue). queue_after q (Enq x.value)) L.queue ∙ (ap (λ (q : List ℕ). unshut (q ++ x.value ∷ []))
+        (run_same (λ i. s.memory.value (G.path i)) (λ i. s.memory.value (path' i)) (suc (G.head + G.shown)) G.queued (λ j from below. let fits = L.list.head.fits in ap s.memory.value (sym (old_path j (omega arith)))))
+        ∙ (ap (λ (v : ℕ). unshut (run (λ i. s.memory.value (path' i)) (suc (G.head + G.shown)) G.queued ++ v ∷ []))
         (sym (ap (λ (i : ℕ). s.memory.value (path' i)) (let fits = L.list.head.fits in let new : suc (G.head + G.shown) + G.queued ≡ n = omega arith in new) ∙ (ap s.memory.value new_path ∙ full.1)))
-        ∙ sym (run_last (λ i. s.memory.value (path' i)) (suc (G.head + G.shown)) G.queued))))
+        ∙ ap unshut (sym (run_last (λ i. s.memory.value (path' i)) (suc (G.head + G.shown)) G.queued))))))
 
     owners' : queue_owners (s.history ++ own ∷ []) ≡ shown_owners z.home G'
-    owners' = owners_follow (λ i. s.memory.value (path' i)) (λ i. z.home (path' i)) s.history own (suc (G.head + G.shown)) (suc G.queued) (suc (G.head + G.shown)) (suc G.queued) (le_refl _) refl queue'
-        (ap (λ (ops : List Op). queue_owners s.history ++ enqueuers c ops) op.0 ∙ ((λ k. owners_before k ++ home_is k ∷ []) ∙ sym (run_last (λ i. z.home (path' i)) (suc (G.head + G.shown)) G.queued))) where
+    owners' = owners_follow (λ i. s.memory.value (path' i)) (λ i. z.home (path' i)) s.history own (suc (G.head + G.shown)) (suc G.queued) (suc (G.head + G.shown)) (suc G.queued) (le_refl _) refl false flag_is (ap (λ (q : Queue). q.values) queue')
+        (ap (λ (ops : List Op). queue_owners s.history ++ enqueuers c false ops) op.0 ∙ ((λ k. owners_before k ++ home_is k ∷ []) ∙ sym (run_last (λ i. z.home (path' i)) (suc (G.head + G.shown)) G.queued))) where
           owners_before : queue_owners s.history ≡ run (λ i. z.home (path' i)) (suc (G.head + G.shown)) G.queued
           owners_before = L.owners ∙ run_same (λ i. z.home (G.path i)) (λ i. z.home (path' i)) (suc (G.head + G.shown)) G.queued (λ j from below. let fits = L.list.head.fits in ap z.home (sym (old_path j (omega arith))))
 
@@ -256,7 +260,7 @@ module _ (z : LaneSizes) (s : State) (L : Lawful z s) (c : ℕ) where
     knows' = joins_knows z s L c off.0 (point.Enqueue x (enq.MoveTail p x.row)) (s.callers c).rows (s.callers c).walked (λ r. r ≡ x.row) W rely (debts c).near not_loose refl (record {
       call = (
         (put_here G.linearized c true, off.1, (λ no. absurd (true_false no)), none_taken, debts_stable z (λ r. r ≡ x.row) (world s G) W rely c (debts c) [] [] off.4),
-        (op, joins_answered z s L c W (Plain Done) refl refl (sym (ap (answers_from (last_queue s.history)) op.0))),
+        (op, joins_answered z s L c W (Plain Done) refl refl (ap (λ (b : Bool). put_answer b ∷ []) (sym flag_is) ∙ sym (ap (answers_from (last_queue s.history)) op.0))),
       );
       here = (
         record {
@@ -293,7 +297,7 @@ module _ (z : LaneSizes) (s : State) (L : Lawful z s) (c : ℕ) where
     pub appended : Lawful z (changed s c memory' (s.history ++ own_group c (s.callers c) ∷ []) k')
     appended = preserves z s L c memory' (s.history ++ own ∷ []) G' k' (λ r. r ≡ x.row) (λ r is. ap z.home is ∙ o.0.free.at_home) rely
         (λ d apart. record { linearized = put_else G.linearized c true d apart; made = mine-push_other s.history own d apart; drafts = drafts_same z (world s G) W refl refl refl d; hazard = refl; held = refl; row_hazard = refl; row_held = refl; debts = debts d })
-        marked' (linearizes_proper z s L c (Enq x.value) off.0 op) queue' owners'
+        marked' (linearizes_proper z s L c (Enq x.value) off.0 op tt) queue' owners'
         (record {
           rows = listed';
           item_rows = items';

@@ -1,7 +1,7 @@
 -- In a lawful lane the lists of each caller fit, and few rows stay few at each step of each caller and at each start.
 use Rattle.std.proofs.Common.{◌≡◌, ◌==◌, ℕ, ◌<◌, ◌≤◌, ◌∙◌, Bool, true, false, List, [], ◌∷◌, length, ap, sym, subst, refl, arith, inl, None}
 use Rattle.bq_model.specs.declared.op.Op.{Op}
-use Rattle.bq_model.specs.declared.op.Op.TheVariants.{Enq, Deq}
+use Rattle.bq_model.specs.declared.op.Op.TheVariants.{Enq, Deq, Shut}
 use Rattle.bq_model.specs.declared.shape.Shape.{Shape}
 use Rattle.std.proofs.lemmas.List.Sums.{count_by-le-length}
 use Rattle.excess_count.specs.Excess.{enqueue_count, is_enqueue}
@@ -88,4 +88,5 @@ module _ (key : Shape) (c n : ℕ) (k : Caller) (few : length k.retired < key.ca
   few_starts [] = few
   few_starts (Enq v ∷ []) = early (Enq v ∷ [])
   few_starts (Deq ∷ []) = early (Deq ∷ [])
+  few_starts (Shut ∷ []) = few
   few_starts (op ∷ next ∷ ops) = of_batch (op ∷ next ∷ ops) (op ∷ next ∷ ops) (draft_of c k (op ∷ next ∷ ops)) (enqueue_count (op ∷ next ∷ ops) == 0)

@@ -92,6 +92,8 @@ module _ (z : LaneSizes) (w : World) (x : ℕ) (e : ℕ) where
     stands = R.stands;
     since_start = R.since_start;
     counts = R.counts;
+    plain = R.plain;
+    unhindered = R.unhindered;
     dummy = R.dummy;
     old_head = R.old_head;
     before = R.before;

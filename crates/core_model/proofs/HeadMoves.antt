@@ -1,6 +1,8 @@
 -- HEAD moves over rows as a command of dequeues ends, or the command finds the queue empty.
 use Rattle.std.proofs.Common.{◌≡◌, ℕ, suc, ◌+◌, ◌*◌, ◌<◌, ◌≤◌, Bool, false, List, [], ◌∷◌, ◌++◌, length, sym, refl, ap, ◌∙◌, subst, arith, le_refl, Some, None, ◌≢◌, ◌-◌, inl, inr, true}
-use Rattle.bq_model.specs.Values.{enqueued}
+use Rattle.bq_model.specs.NoShut.{NoShut}
+use Rattle.bq_model.specs.Queue.{Queue, unshut}
+use Rattle.bq_model.specs.Values.{enqueued, entered}
 use Rattle.bq_model.specs.declared.group.Group.{Group}
 use Rattle.bq_model.specs.Replay.{answers_from, queue_from}
 use Rattle.bq_model.specs.History.{last_queue}
@@ -20,7 +22,7 @@ use Rattle.core_model.specs.Rows.{Debts, OwesRows}
 use Rattle.core_model.specs.Facts.{Holds, AtPoint}
 use Rattle.core_model.specs.Ghost.{at, owes, Ghost, World}
 use Rattle.core_model.specs.Lawful.{shown_queue, queue_owners, shown_owners, head_word, Listed, ItemRows, Headed, Tailed, Announced, Lawful}
-use Rattle.core_model.proofs.Owners.{owners_leave}
+use Rattle.core_model.proofs.Owners.{owners_leave, none_enter}
 use Rattle.core_model.proofs.Groups.{mine-push_other, length-operations-push}
 use Rattle.core_model.proofs.Rely.{world, some_none, true_false, anns_moved, rows_same, NoDebts, Rely}
 use Rattle.core_model.proofs.Callers.{guards_row_stable}
@@ -29,7 +31,9 @@ use Rattle.core_model.proofs.Joins.{joins_proper, joins_groups, joins_knows, joi
 use Rattle.core_model.proofs.RowsStable.{takes_stable, debts_stable, own_rows_stable}
 use Rattle.core_model.proofs.Owing.{owed_passer, owed_reader, pass_owed, read_owed, marked_owed, near_owed, no_debts_owed, debts_owed}
 use Rattle.core_model.proofs.Closes.{answers_so}
-use Rattle.core_model.proofs.Losses.{losing, losing_point, rows_behind, closing_knows, closed}
+use Rattle.core_model.proofs.Losses.{losing, losing_point, rows_behind, losing_knows, closing_knows, closed}
+use Rattle.core_model.proofs.Lists.{among_none}
+use Rattle.core_model.proofs.RowLists.{among_rising, distinct_rising}
 use Rattle.std.proofs.lemmas.Bool.{lt-ltb}
 use Rattle.std.specs.Prelude.{nat_lt}
 use Rattle.lane_steps.specs.declared.point.ClosePoint.TheVariants as close
@@ -60,13 +64,13 @@ module _ (z : LaneSizes) (s : State) (L : Lawful z s) (c : ℕ) where
   all_shown : L.ghost.ann ≡ None → (f : ℕ → ℕ) → run f (suc (L.ghost.head + L.ghost.shown)) L.ghost.queued ≡ run f (suc L.ghost.head) L.ghost.rest
   all_shown no_ann f = let b = L.list.head.none no_ann in let fits = L.list.head.fits in λ i. run f (suc ((let e : G.head + G.shown ≡ G.head = omega arith in e) i)) ((let e : G.queued ≡ G.rest = omega arith in e) i)
 
-  pub bare_queue : L.ghost.ann ≡ None → last_queue s.history ≡ run value_at (suc L.ghost.head) L.ghost.rest
-  bare_queue no_ann = L.queue ∙ all_shown no_ann value_at
+  pub bare_queue : L.ghost.ann ≡ None → last_queue s.history ≡ unshut (run value_at (suc L.ghost.head) L.ghost.rest)
+  bare_queue no_ann = L.queue ∙ ap unshut (all_shown no_ann value_at)
 
   -- HEAD moves from the dummy p over m rows, which are these, to the row r, and the command is done, with these answers
-  module _ (p : Place) (r m : ℕ) (ws : List ℕ) (x : Closing) (done : is_done x ≡ true) (off : Holds z (world s L.ghost) c (linearized_is false (s.callers c).rows [] [])) (loose : Holds z (world s L.ghost) c (own_rows (s.callers c).rows)) (known_caller : c < z.callers) (some : (s.callers c).ops ≢ []) (adds_none : enqueued (s.callers c).ops ≡ [])
+  module _ (p : Place) (r m : ℕ) (ws : List ℕ) (x : Closing) (done : is_done x ≡ true) (off : Holds z (world s L.ghost) c (linearized_is false (s.callers c).rows [] [])) (loose : Holds z (world s L.ghost) c (own_rows (s.callers c).rows)) (known_caller : c < z.callers) (some : (s.callers c).ops ≢ []) (plain : NoShut (s.callers c).ops) (adds_none : enqueued (s.callers c).ops ≡ [])
       (head : s.memory.head ≡ Node p) (many : 0 < m) (all : length ws ≡ m) (walked : ws ≡ run L.ghost.path (suc L.ghost.head) m) (enough : m ≤ L.ghost.rest) (row_is : r ≡ L.ghost.path (L.ghost.head + m)) (past : L.ghost.head + m ≤ L.ghost.tail) (right : closing_answers (s.callers c).ops (s.callers c).values x ≡ answers_from (last_queue s.history) (s.callers c).ops)
-      (leaves : queue_from (last_queue s.history) (s.callers c).ops ≡ run (λ j. s.memory.value (L.ghost.path j)) (suc L.ghost.head + m) (L.ghost.rest - m)) where
+      (leaves : queue_from (last_queue s.history) (s.callers c).ops ≡ unshut (run (λ j. s.memory.value (L.ghost.path j)) (suc L.ghost.head + m) (L.ghost.rest - m))) where
     count_is : p.count ≡ z.first + G.head
     count_is = ap (λ (q : Place). q.count) (node_found z s L c p head).1
 
@@ -119,11 +123,11 @@ module _ (z : LaneSizes) (s : State) (L : Lawful z s) (c : ℕ) where
       more = (own ∷ [], refl);
     }
 
-    queue' : last_queue (s.history ++ own ∷ []) ≡ shown_queue s.memory.value G'
-    queue' = last_queue-push s.history own ∙ (leaves ∙ ap (λ (j : ℕ). run value_at j left) (let b = bare in let e : suc G.head + m ≡ suc (G.head + m + G.shown) = omega arith in e))
+    queue' : last_queue (s.history ++ own ∷ []) ≡ unshut (shown_queue s.memory.value G')
+    queue' = last_queue-push s.history own ∙ (leaves ∙ ap (λ (j : ℕ). unshut (run value_at j left)) (let b = bare in let e : suc G.head + m ≡ suc (G.head + m + G.shown) = omega arith in e))
 
     owners' : queue_owners (s.history ++ own ∷ []) ≡ shown_owners z.home G'
-    owners' = owners_leave value_at home_at s.history own (suc G.head) G.rest (suc (G.head + m + G.shown)) left (omega arith) (let b = bare in let e = same_end in omega arith) queue' adds_none (L.owners ∙ all_shown no_ann home_at)
+    owners' = owners_leave value_at home_at s.history own (suc G.head) G.rest (suc (G.head + m + G.shown)) left (omega arith) (let b = bare in let e = same_end in omega arith) (last_queue s.history).shut refl (ap (λ (q : Queue). q.values) queue') (none_enter (last_queue s.history).shut (s.callers c).ops adds_none) (L.owners ∙ all_shown no_ann home_at)
 
     listed' : Listed z.rows s.memory.link G.path G.chained G.spot (G.head + m) left
     listed' = let e = same_end in record {
@@ -203,7 +207,7 @@ module _ (z : LaneSizes) (s : State) (L : Lawful z s) (c : ℕ) where
     head_moved = preserves z s L c memory' (s.history ++ own ∷ []) G' (record (s.callers c) { point = t'; walked = ws }) (λ _. ⊥) (λ _ x. absurd x) rely
         (λ d apart. record { linearized = put_else G.linearized c true d apart; made = mine-push_other s.history own d apart; drafts = drafts_same z (world s G) W refl refl refl d; hazard = refl; held = refl; row_hazard = refl; row_held = refl; debts = no_debts_owed z s L bare c m 0 memory' (s.history ++ own ∷ []) G' heads (λ _ _ at. at) (λ _ _ at _. at) d apart })
         (marked_owed z s L bare c m 0 memory' (s.history ++ own ∷ []) G' heads (let b = bare in omega arith) (λ none. absurd (omega arith)) (λ _ _ at. inl at))
-        (joins_proper z s L c off.0 known_caller some) queue' owners'
+        (joins_proper z s L c off.0 known_caller some plain) queue' owners'
         (record {
           rows = listed';
           item_rows = items';
@@ -222,11 +226,11 @@ module _ (z : LaneSizes) (s : State) (L : Lawful z s) (c : ℕ) where
         })
 
   -- nothing lies behind the dummy, and no announcement stands
-  pub none_queued : (p : Place) → Holds z (world s L.ghost) c (linked p) → Holds z (world s L.ghost) c (head_seen p) → s.memory.link p.row ≡ Nil → last_queue s.history ≡ []
-  none_queued p on seen nil = let end = is_last z s L c p on nil in let seen' = seen in let count = on.count in let fits = L.list.head.fits in L.queue ∙ ap (run value_at (suc (G.head + G.shown))) (let e : G.queued ≡ 0 = omega arith in e)
+  pub none_queued : (p : Place) → (on : Holds z (world s L.ghost) c (linked p)) → Holds z (world s L.ghost) c (head_seen p) → on.position ≡ L.ghost.head + L.ghost.rest → last_queue s.history ≡ unshut []
+  none_queued p on seen end = let seen' = seen in let count = on.count in let fits = L.list.head.fits in L.queue ∙ ap (λ (n : ℕ). unshut (run value_at (suc (G.head + G.shown)) n)) (let e : G.queued ≡ 0 = omega arith in e)
 
-  -- the command takes effect and ends, and leaves the queue as it is
-  module _ (x : Closing) (done : is_done x ≡ true) (off : Holds z (world s L.ghost) c (linearized_is false (s.callers c).rows [] [])) (loose : Holds z (world s L.ghost) c (own_rows (s.callers c).rows)) (known_caller : c < z.callers) (some : (s.callers c).ops ≢ []) (adds_none : enqueued (s.callers c).ops ≡ [])
+  -- the command takes effect and comes to its end, where it has yet to mark these rows, and leaves the queue as it is
+  module _ (x : Closing) (rows : List ℕ) (done : is_done x ≡ true) (off : Holds z (world s L.ghost) c (linearized_is false rows [] [])) (loose : Holds z (world s L.ghost) c (own_rows rows)) (known_caller : c < z.callers) (some : (s.callers c).ops ≢ []) (plain : NoShut (s.callers c).ops) (enters_none : entered (last_queue s.history).shut (s.callers c).ops ≡ [])
       (right : closing_answers (s.callers c).ops (s.callers c).values x ≡ answers_from (last_queue s.history) (s.callers c).ops) (leaves : queue_from (last_queue s.history) (s.callers c).ops ≡ last_queue s.history) where
     abbrev H : Ghost
     H = record L.ghost { linearized = put L.ghost.linearized c true }
@@ -235,30 +239,30 @@ module _ (z : LaneSizes) (s : State) (L : Lawful z s) (c : ℕ) where
     E = record { memory = s.memory; history = s.history ++ own ∷ []; ghost = H }
 
     abbrev k' : Caller
-    k' = losing (s.callers c) x (rising (s.callers c).rows)
+    k' = losing (s.callers c) x rows
 
     on_empty : Rely z (λ _. ⊥) (world s L.ghost) E
     on_empty = rely_history z s G (put G.linearized c true) (s.history ++ own ∷ []) (own ∷ [], refl)
 
-    queue_same : last_queue (s.history ++ own ∷ []) ≡ shown_queue s.memory.value H
+    queue_same : last_queue (s.history ++ own ∷ []) ≡ unshut (shown_queue s.memory.value H)
     queue_same = last_queue-push s.history own ∙ (leaves ∙ L.queue)
 
     owners_same : queue_owners (s.history ++ own ∷ []) ≡ shown_owners z.home H
-    owners_same = owners_leave value_at home_at s.history own (suc (G.head + G.shown)) G.queued (suc (G.head + G.shown)) G.queued (le_refl _) refl queue_same adds_none L.owners
+    owners_same = owners_leave value_at home_at s.history own (suc (G.head + G.shown)) G.queued (suc (G.head + G.shown)) G.queued (le_refl _) refl (last_queue s.history).shut refl (ap (λ (q : Queue). q.values) queue_same) enters_none L.owners
 
     still_debts : (d : ℕ) → NoDebts (world s G) E d
     still_debts d = debts_same (world s G) E refl refl refl refl refl d
 
-    knows_empty : AtPoint z E c k' (losing_point x (rising (s.callers c).rows))
-    knows_empty = closing_knows z c E (s.callers c) x
-        (subst (λ (b : Bool). Holds z E c (linearized_is b (s.callers c).rows [] [])) (sym done)
-        (put_here G.linearized c true, off.1, (λ no. absurd (true_false no)), takes_stable z (λ _. ⊥) (world s G) E on_empty c (λ _ _ x. x) (s.callers c).rows off.3, debts_stable z (λ _. ⊥) (world s G) E on_empty c (still_debts c) [] [] off.4))
-        (own_rows_stable z (λ _. ⊥) (world s G) E on_empty c (λ _ _ x. x) (s.callers c).rows loose) (joins_answered z s L c E x done refl right)
+    knows_empty : AtPoint z E c k' (losing_point x rows)
+    knows_empty = losing_knows z c E (s.callers c) x rows
+        (subst (λ (b : Bool). Holds z E c (linearized_is b rows [] [])) (sym done)
+        (put_here G.linearized c true, off.1, (λ no. absurd (true_false no)), takes_stable z (λ _. ⊥) (world s G) E on_empty c (λ _ _ x. x) rows off.3, debts_stable z (λ _. ⊥) (world s G) E on_empty c (still_debts c) [] [] off.4))
+        (own_rows_stable z (λ _. ⊥) (world s G) E on_empty c (λ _ _ x. x) rows loose) (joins_answered z s L c E x done refl right)
 
-    pub found_empty : Lawful z (changed s c s.memory (s.history ++ own_group c (s.callers c) ∷ []) (closes (length (s.history ++ own_group c (s.callers c) ∷ [])) c (s.callers c) x))
-    found_empty = closed z c s s.memory (s.history ++ own ∷ []) (s.callers c) x (preserves z s L c s.memory (s.history ++ own ∷ []) H k' (λ _. ⊥) (λ _ x. absurd x) on_empty
+    pub found_nothing : Lawful z (changed s c s.memory (s.history ++ own_group c (s.callers c) ∷ []) (losing (s.callers c) x rows))
+    found_nothing = preserves z s L c s.memory (s.history ++ own ∷ []) H k' (λ _. ⊥) (λ _ x. absurd x) on_empty
         (λ d apart. record { linearized = put_else G.linearized c true d apart; made = mine-push_other s.history own d apart; drafts = drafts_same z (world s G) E refl refl refl d; hazard = refl; held = refl; row_hazard = refl; row_held = refl; debts = still_debts d })
-        L.marks (joins_proper z s L c off.0 known_caller some) queue_same owners_same
+        L.marks (joins_proper z s L c off.0 known_caller some plain) queue_same owners_same
         (record { rows = L.list.rows; item_rows = L.list.item_rows; head = L.list.head; tail = L.list.tail; counts = let more = length-operations-push s.history own in let was = L.list.counts in omega arith; links = L.list.links })
         L.announced (told_plain z s L c s.memory H k' off.1 L.told)
         (waits_plain z s L c s.memory H k' off.1 (waits_there z s L c) (λ a waits. let p = L.pending a waits in
@@ -267,7 +271,15 @@ module _ (z : LaneSizes) (s : State) (L : Lawful z s) (c : ℕ) where
         (record {
           guards = (L.callers c).guards;
           guards_row = (L.callers c).guards_row;
-          own_groups = joins_groups z s L c off.0 (losing_point x (rising (s.callers c).rows)) (rows_behind (rising (s.callers c).rows)) (s.callers c).walked;
+          own_groups = joins_groups z s L c off.0 (losing_point x rows) (rows_behind rows) (s.callers c).walked;
           allowed = (L.callers c).allowed;
-          knows = joins_knows z s L c off.0 (losing_point x (rising (s.callers c).rows)) (rows_behind (rising (s.callers c).rows)) (s.callers c).walked (λ _. ⊥) E on_empty (still_debts c).near (λ _ _ x. x) refl knows_empty;
-        }))
+          knows = joins_knows z s L c off.0 (losing_point x rows) (rows_behind rows) (s.callers c).walked (λ _. ⊥) E on_empty (still_debts c).near (λ _ _ x. x) refl knows_empty;
+        })
+
+  -- and so it does where it ends with the rows that it has taken
+  module _ (x : Closing) (done : is_done x ≡ true) (off : Holds z (world s L.ghost) c (linearized_is false (s.callers c).rows [] [])) (loose : Holds z (world s L.ghost) c (own_rows (s.callers c).rows)) (known_caller : c < z.callers) (some : (s.callers c).ops ≢ []) (plain : NoShut (s.callers c).ops) (enters_none : entered (last_queue s.history).shut (s.callers c).ops ≡ [])
+      (right : closing_answers (s.callers c).ops (s.callers c).values x ≡ answers_from (last_queue s.history) (s.callers c).ops) (leaves : queue_from (last_queue s.history) (s.callers c).ops ≡ last_queue s.history) where
+    pub found_empty : Lawful z (changed s c s.memory (s.history ++ own_group c (s.callers c) ∷ []) (closes (length (s.history ++ own_group c (s.callers c) ∷ [])) c (s.callers c) x))
+    found_empty = let rows = (s.callers c).rows in closed z c s s.memory (s.history ++ own ∷ []) (s.callers c) x
+        (found_nothing x (rising rows) done (off.0, off.1, off.2, (λ r home none taken fresh. among_rising rows r ∙ off.3 r home none taken fresh), off.4)
+        (record { each = λ r is. loose.each r (sym (among_rising rows r) ∙ is); distinct = distinct_rising rows loose.distinct }) known_caller some plain enters_none right leaves)

@@ -1,4 +1,5 @@
 -- A helper moves TAIL over the rows that were linked, walks on, and moves HEAD to the new dummy.
+use Rattle.bq_model.specs.Queue.{unshut}
 use Rattle.std.proofs.Common.{◌≡◌, inr, ℕ, suc, ◌+◌, ◌-◌, ◌*◌, ◌<◌, ◌≤◌, eqb, Bool, true, false, cond, [], sym, refl, ap, ◌∙◌, subst, arith, le_refl, Some, None, inl}
 use Rattle.std.proofs.lemmas.List.{append-nil}
 use Rattle.std.proofs.lemmas.Bool.{eqb-true, and_parts}
@@ -304,7 +305,7 @@ module _ (z : LaneSizes) (s : State) (L : Lawful z s) (c : ℕ) where
       sizes = L.sizes;
       marks = marked';
       history = L.history;
-      queue = L.queue ∙ ap (λ (y : ℕ). run (λ i. s.memory.value (L.ghost.path i)) (suc y) L.ghost.queued) (let f : L.ghost.head + L.ghost.shown ≡ L.ghost.head + L.ghost.shown + 0 = omega arith in f);
+      queue = L.queue ∙ ap (λ (y : ℕ). unshut (run (λ i. s.memory.value (L.ghost.path i)) (suc y) L.ghost.queued)) (let f : L.ghost.head + L.ghost.shown ≡ L.ghost.head + L.ghost.shown + 0 = omega arith in f);
       owners = L.owners ∙ ap (λ (y : ℕ). run (λ i. z.home (L.ghost.path i)) (suc y) L.ghost.queued) (let f : L.ghost.head + L.ghost.shown ≡ L.ghost.head + L.ghost.shown + 0 = omega arith in f);
       list = record {
         rows = record {

@@ -53,7 +53,7 @@ module _ (z : LaneSizes) (s : State) (L : Lawful z s) where
     by false e within = let total = ap (λ (gs : List Group). length (operations gs)) (e ∙ append-nil (s.callers c).mine) in omega arith
 
   pub all_within : length (operations s.history) ≤ z.callers * z.allowance
-  all_within = operations_within z.callers z.allowance s.history L.history own_within
+  all_within = operations_within z.callers z.allowance s.history L.history.proper own_within
 
   -- a row that a caller seeks is one of the lane
   sought : (c : ℕ) (b : Bool) (r l : ℕ) → c < z.callers → Holds z (world s L.ghost) c (seeks b r l) → r < z.rows

@@ -6,7 +6,7 @@ use Rattle.bq_model.specs.declared.group.Group.{Group}
 use Rattle.bq_model.specs.Replay.{answers_from}
 use Rattle.bq_model.specs.History.{operations, last_queue}
 use Rattle.bq_model.specs.Own.{mine}
-use Rattle.bq_model.specs.Proper.{IsProper}
+use Rattle.bq_model.specs.NoShut.{NoShut}
 use Rattle.lane_steps.specs.LaneSizes.{LaneSizes}
 use Rattle.lane_steps.specs.State.{Caller, State, own_group}
 use Rattle.lane_steps.specs.Fact.{is_op, answered}
@@ -14,8 +14,8 @@ use Rattle.lane_steps.specs.Answers.{closing_answers}
 use Rattle.lane_steps.specs.Close.{is_done, answer_known}
 use Rattle.core_model.specs.Rows.{Loose}
 use Rattle.core_model.specs.Facts.{Holds, Each, AtPoint, Knows}
-use Rattle.core_model.specs.Lawful.{OwnGroups, Lawful}
-use Rattle.core_model.proofs.Groups.{mine-push_own, length-operations-push, proper-push}
+use Rattle.core_model.specs.Lawful.{PlainHistory, OwnGroups, Lawful}
+use Rattle.core_model.proofs.Groups.{mine-push_own, length-operations-push, plain-push}
 use Rattle.core_model.proofs.Rely.{world, Near, Rely, true_false}
 use Rattle.lane_steps.specs.declared.point.Closing.{Closing}
 use Rattle.lane_steps.specs.Functions.{put}
@@ -40,8 +40,8 @@ module _ (z : LaneSizes) (s : State) (L : Lawful z s) (c : ℕ) where
     own_mine : mine s.history c ≡ (s.callers c).mine
     own_mine = (L.callers c).own_groups ∙ (ap (λ (b : Bool). me.mine ++ cond b (own ∷ []) []) off ∙ append-nil me.mine)
 
-    pub joins_proper : c < z.callers → (s.callers c).ops ≢ [] → IsProper z.callers (s.history ++ own_group c (s.callers c) ∷ [])
-    joins_proper known some = proper-push z.callers s.history own known some (ap length (sym own_mine)) L.history
+    pub joins_proper : c < z.callers → (s.callers c).ops ≢ [] → NoShut (s.callers c).ops → PlainHistory z.callers (s.history ++ own_group c (s.callers c) ∷ [])
+    joins_proper known some plain = plain-push z.callers s.history own known some plain (ap length (sym own_mine)) L.history
 
     pub joins_mine : mine (s.history ++ own_group c (s.callers c) ∷ []) c ≡ (s.callers c).mine ++ own_group c (s.callers c) ∷ []
     joins_mine = mine-push_own s.history own ∙ ap (λ (gs : List Group). gs ++ own ∷ []) own_mine
@@ -75,8 +75,8 @@ module _ (z : LaneSizes) (s : State) (L : Lawful z s) (c : ℕ) where
 
   -- the same of a single operation
   module _ (op : Op) (off : L.ghost.linearized c ≡ false) (runs : Holds z (world s L.ghost) c (is_op (s.callers c).ops (s.callers c).rows op)) where
-    pub linearizes_proper : IsProper z.callers (s.history ++ own_group c (s.callers c) ∷ [])
-    linearizes_proper = joins_proper off runs.1 (λ none. some (sym runs.0 ∙ none)) where
+    pub linearizes_proper : NoShut (op ∷ []) → PlainHistory z.callers (s.history ++ own_group c (s.callers c) ∷ [])
+    linearizes_proper plain = joins_proper off runs.1 (λ none. some (sym runs.0 ∙ none)) (subst NoShut (sym runs.0) plain) where
       some : op ∷ [] ≢ []
       some e = cc e
 

@@ -49,7 +49,7 @@ mine_known callers c (g ∷ h) all some = by (eqb g.caller c) refl (mine_known c
 module _ (z : LaneSizes) (s : State) (L : Lawful z s) (c : ℕ) where
   -- so is one whose command has taken effect
   pub linearized_known : L.ghost.linearized c ≡ true → c < z.callers
-  linearized_known on = mine_known z.callers c s.history (recursion_from_All (λ (g : Group). g.caller < z.callers) s.history L.history.known)
+  linearized_known on = mine_known z.callers c s.history (recursion_from_All (λ (g : Group). g.caller < z.callers) s.history L.history.proper.known)
       (let made = ap length ((L.callers c).own_groups ∙ ap (λ (b : Bool). (s.callers c).mine ++ cond b (own_group c (s.callers c) ∷ []) []) on) in let total = length-append (s.callers c).mine (own_group c (s.callers c) ∷ []) in omega arith)
 
   -- and one whose call comes to its end

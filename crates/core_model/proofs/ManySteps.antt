@@ -68,6 +68,7 @@ module _ (z : LaneSizes) (s : State) (L : Lawful z s) (c : ℕ) where
         known = x.known;
         describes = record { counts = y.counts; number = y.number; order0 = y.order0; order1 = y.order1; order2 = y.order2; order3 = y.order3 };
         several = x.several;
+        plain = x.plain;
       },
       (third f, (((fourth f).0, λ some. let x = (fourth f).1 some in record { all = x.all; first = x.first; last = x.last }), (fifth f, tt))),
     ),

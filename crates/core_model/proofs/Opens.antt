@@ -1,4 +1,5 @@
 -- An empty lane is lawful.
+use Rattle.bq_model.specs.NoShut.{NoShut, ShutAlone}
 use Rattle.std.proofs.Common.{◌≡◌, ◌≢◌, inl, inr, ℕ, suc, ◌+◌, ◌*◌, ◌-◌, ◌/◌, ◌<◌, ◌≤◌, eqb, Bool, true, false, not, [], cond, sym, refl, ap, ◌∙◌, arith, ne_eqb, le_refl, mul-le-mul_right, Option, Some, None, subst}
 use Rattle.std.proofs.lemmas.Bool.{eqb-true}
 use Rattle.std.proofs.lemmas.Nat.{div-mul-add}
@@ -136,7 +137,7 @@ module _ (z : Shape) (c : ℕ) where
 pub opens : (z : Shape) → Lawful (lane_sizes z) (opening (lane_sizes z))
 opens z = record {
   ghost = first_ghost;
-  history = record { known = All-nil (λ (g : Group). g.caller < z.callers); filled = All-nil (λ (g : Group). g.ops ≢ []); numbered = λ _. refl };
+  history = record { never_shut = All-nil (λ (g : Group). NoShut g.ops); proper = record { known = All-nil (λ (g : Group). g.caller < z.callers); filled = All-nil (λ (g : Group). g.ops ≢ []); shuts = All-nil (λ (g : Group). ShutAlone g.ops); numbered = λ _. refl } };
   queue = refl;
   owners = refl;
   sizes = is_lane z;

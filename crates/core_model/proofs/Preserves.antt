@@ -4,7 +4,7 @@ use Rattle.std.proofs.lemmas.List.{append-nil}
 use Rattle.bq_model.specs.declared.op.Answer.{Answer}
 use Rattle.bq_model.specs.declared.group.Group.{Group}
 use Rattle.bq_model.specs.History.{last_queue}
-use Rattle.bq_model.specs.Proper.{IsProper}
+use Rattle.bq_model.specs.Queue.{unshut}
 use Rattle.word_rows.specs.declared.place.Place.{Place}
 use Rattle.word_rows.specs.declared.location.Location.{Location}
 use Rattle.word_rows.specs.declared.content.Content.{Content}
@@ -33,7 +33,7 @@ use Rattle.lane_steps.specs.declared.course.Course.{Course}
 use Rattle.lane_steps.specs.declared.course.Course.TheVariants.{GoesOn}
 use Rattle.core_model.specs.Ghost.{Due, Stage, waiting, Ghost, World}
 use Rattle.core_model.specs.Kept.{Stands, Kept}
-use Rattle.core_model.specs.Lawful.{shown_queue, queue_owners, shown_owners, InOrder, Announced, GuardsOwn, HelpsOwn, Told, IsTold, Pending, Waits, Allowed, Marked, OfCaller, Lawful, OwnGroups, Guards, GuardsRow, held_by}
+use Rattle.core_model.specs.Lawful.{PlainHistory, shown_queue, queue_owners, shown_owners, InOrder, Announced, GuardsOwn, HelpsOwn, Told, IsTold, Pending, Waits, Allowed, Marked, OfCaller, Lawful, OwnGroups, Guards, GuardsRow, held_by}
 use Rattle.core_model.proofs.Puts.{put_here, put_else, put_all}
 use Rattle.core_model.proofs.Groups.{length-operations-push}
 use Rattle.core_model.proofs.StoredAgain.{write_read, leaves}
@@ -171,7 +171,7 @@ module _ (z : LaneSizes) (s : State) (L : Lawful z s) (c : ℕ) where
   pub told_regarding : (memory : Memory) (g : Ghost) (t : Point) (h r : Hold) → Plain z g c ⊎ HelpsOwn t → ((a : ℕ) → IsTold z memory g s.callers a) → (a : ℕ) → IsTold z memory g (put s.callers c (regarding (s.callers c) t h r)) a
   told_regarding memory g t h r (inl plain) old a at_head = told_plain memory g (regarding me t h r) plain old a at_head
   told_regarding memory g t h r (inr own) old a at_head = put_all s.callers c (regarding me t h r) (λ d k. owner_of z a ≡ d → Told z.home memory.value g.path (g.stage a) (memory.notice a) (owner_of z a) k)
-      (λ at. let p = subst (λ (d : ℕ). Told z.home memory.value g.path (g.stage a) (memory.notice a) (owner_of z a) (s.callers d)) at (old a at_head) in record { describes = p.describes; several = p.several; first = p.first; last = p.last; helps = own; values = p.values })
+      (λ at. let p = subst (λ (d : ℕ). Told z.home memory.value g.path (g.stage a) (memory.notice a) (owner_of z a) (s.callers d)) at (old a at_head) in record { describes = p.describes; several = p.several; plain = p.plain; first = p.first; last = p.last; helps = own; values = p.values })
       (λ d _ at. subst (λ (d : ℕ). Told z.home memory.value g.path (g.stage a) (memory.notice a) (owner_of z a) (s.callers d)) at (old a at_head)) (owner_of z a) refl
 
   pub told_on : (memory : Memory) (g : Ghost) (t : Point) → Plain z g c ⊎ HelpsOwn t → ((a : ℕ) → IsTold z memory g s.callers a) → (a : ℕ) → IsTold z memory g (put s.callers c (stepped (s.callers c) t)) a
@@ -212,8 +212,8 @@ module _ (z : LaneSizes) (s : State) (L : Lawful z s) (c : ℕ) where
       → Rely z Touch (world s L.ghost) record { memory = memory; history = h; ghost = g }
       → ((d : ℕ) → d ≢ c → Apart z (world s L.ghost) record { memory = memory; history = h; ghost = g } d)
       → Marked memory.mark g.spot g.reader g.passer g.head g.shown
-      → IsProper z.callers h
-      → last_queue h ≡ shown_queue memory.value g
+      → PlainHistory z.callers h
+      → last_queue h ≡ unshut (shown_queue memory.value g)
       → queue_owners h ≡ shown_owners z.home g
       → InOrder z memory h g
       → Announced z memory g

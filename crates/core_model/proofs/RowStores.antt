@@ -1,5 +1,6 @@
 -- A caller stores into a row that is its own and isn't linked: the marks, the link or the value. All others stay.
 use Rattle.std.proofs.Common.{◌≡◌, ◌≢◌, ◌⊎◌, inl, inr, ℕ, suc, ◌+◌, ◌<◌, ◌≤◌, Bool, true, List, [], sym, refl, ap, ◌∙◌, subst, arith, le_refl, Some}
+use Rattle.bq_model.specs.Queue.{unshut}
 use Rattle.std.proofs.lemmas.List.{append-nil}
 use Rattle.word_rows.specs.declared.marks.Marks.{Marks}
 use Rattle.word_rows.specs.declared.link_word.LinkWord.{LinkWord}
@@ -97,7 +98,7 @@ module _ (z : LaneSizes) (s : State) (L : Lawful z s) (c : ℕ) where
     rows_stored plain k hold row_hold groups allowed knows = preserves z s L c memory' s.history G k (λ q. q ≡ r) (λ q e. ap z.home e ∙ home) rely
         (λ d _. record { linearized = refl; made = refl; drafts = drafts_same z (world s G) W refl refl refl d; hazard = refl; held = refl; row_hazard = refl; row_held = refl; debts = debts_same (world s G) W refl refl refl refl refl d })
         marked' L.history
-        (L.queue ∙ run_same (λ i. s.memory.value (G.path i)) (λ i. value' (G.path i)) (suc (G.head + G.shown)) G.queued (λ j from below. let fits = L.list.head.fits in sym (values (G.path j) (on_path j (omega arith) (omega arith)))))
+        (L.queue ∙ ap unshut (run_same (λ i. s.memory.value (G.path i)) (λ i. value' (G.path i)) (suc (G.head + G.shown)) G.queued (λ j from below. let fits = L.list.head.fits in sym (values (G.path j) (on_path j (omega arith) (omega arith))))))
         L.owners
         (record { rows = listed'; item_rows = L.list.item_rows; head = L.list.head; tail = L.list.tail; counts = L.list.counts; links = ranges })
         L.announced

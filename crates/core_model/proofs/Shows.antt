@@ -3,6 +3,7 @@ use Rattle.std.proofs.Common.{◌≡◌, ℕ, zero, suc, ◌+◌, ◌-◌, ◌<�
 use mathlib.Core.Logic.{dite}
 use native.Mathlib.Decide.{dec_le}
 use Rattle.bq_model.specs.History.{last_queue}
+use Rattle.bq_model.specs.Queue.{Queue}
 use Rattle.word_rows.specs.declared.place.Place.{Place}
 use Rattle.word_rows.specs.declared.head_word.HeadWord.TheVariants.{Ann}
 use Rattle.word_rows.specs.declared.link_word.LinkWord.{LinkWord}
@@ -39,7 +40,7 @@ module _ (z : LaneSizes) (s : State) (L : Lawful z s) where
   joint_follow true r q = refl
   joint_follow false r q = refl
 
-  along_list : (i n : ℕ) → G.head ≤ i → i + n ≡ total → Along s.memory (G.path i) (run value_at (suc i) n)
+  along_list : (i n : ℕ) → G.head ≤ i → i + n ≡ total → Along s.memory false (G.path i) (run value_at (suc i) n)
   along_list i zero from all = ap (λ (j : ℕ). s.memory.link (G.path j)) (let e : i ≡ total = omega arith in e) ∙ L.list.rows.last
   along_list i (suc n) from all = (G.path (suc i), ap linked_row (L.list.rows.joined i from (omega arith)) ∙ joint_row (G.chained i) (G.path (suc i)), refl, along_list (suc i) n (omega arith) (omega arith))
 
@@ -117,5 +118,5 @@ module _ (z : LaneSizes) (s : State) (L : Lawful z s) where
 
   -- THE shown queue is the last queue of the history
   pub shows_last : Shows s.memory (last_queue s.history)
-  shows_last = subst (λ (r : ℕ). Along s.memory r (last_queue s.history)) (sym shown_head_is)
-      (subst (Along s.memory (G.path (G.head + G.shown))) (sym L.queue) (along_list (G.head + G.shown) G.queued (omega arith) (let fits = L.list.head.fits in omega arith)))
+  shows_last = subst (λ (r : ℕ). Along s.memory (last_queue s.history).shut r (last_queue s.history).values) (sym shown_head_is)
+      (subst (λ (q : Queue). Along s.memory q.shut (G.path (G.head + G.shown)) q.values) (sym L.queue) (along_list (G.head + G.shown) G.queued (omega arith) (let fits = L.list.head.fits in omega arith)))

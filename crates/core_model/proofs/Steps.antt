@@ -2,7 +2,7 @@
 use Rattle.std.proofs.Common.{◌≡◌, ◌≢◌, ℕ, ◌-◌, ◌<◌, eqb, Bool, true, false, cond, List, [], ◌∷◌, ◌++◌, length, sym, refl, ap, ◌∙◌, arith, le_refl, Some, None}
 use Rattle.std.proofs.lemmas.Bool.{eqb-true, eqb-false}
 use Rattle.bq_model.specs.declared.op.Op.{Op}
-use Rattle.bq_model.specs.declared.op.Op.TheVariants.{Enq, Deq}
+use Rattle.bq_model.specs.declared.op.Op.TheVariants.{Enq, Deq, Shut}
 use Rattle.excess_count.specs.Excess.{enqueue_count}
 use Rattle.excess_count.proofs.ExcessLaws.{count-ops}
 use Rattle.lane_steps.specs.declared.point.Notice.{Notice}
@@ -61,7 +61,7 @@ module _ (z : LaneSizes) (s : State) (L : Lawful z s) (c : ℕ) where
     seeks_first b = (0, refl, let some = L.sizes.some b in omega arith)
 
     -- a batch begins with a row for its first value, or with its walk
-    module _ (op op' : Op) (ops : List Op) where
+    module _ (op op' : Op) (ops : List Op) (is : IsCommand (op ∷ op' ∷ ops)) where
       abbrev all : List Op
       all = op ∷ op' ∷ ops
 
@@ -72,7 +72,7 @@ module _ (z : LaneSizes) (s : State) (L : Lawful z s) (c : ℕ) where
       d = draft_of c (s.callers c) (op ∷ op' ∷ ops)
 
       draft_knows : Holds z (world s L.ghost) c (drafts (command k) d)
-      draft_knows = record { known = known_caller; describes = record { counts = refl; number = refl; order0 = refl; order1 = refl; order2 = refl; order3 = refl }; several = omega arith }
+      draft_knows = record { known = known_caller; describes = record { counts = refl; number = refl; order0 = refl; order1 = refl; order2 = refl; order3 = refl }; several = omega arith; plain = is.1 }
 
       none_filled : Holds z (world s L.ghost) c (fills [] (op ∷ op' ∷ ops) 0)
       none_filled = record {
@@ -84,7 +84,7 @@ module _ (z : LaneSizes) (s : State) (L : Lawful z s) (c : ℕ) where
       }
 
       batch_knows : (b : Bool) → eqb (enqueue_count (op ∷ op' ∷ ops)) 0 ≡ b → AtPoint z (world s L.ghost) c k (batch_point z c (op ∷ op' ∷ ops) d b)
-      batch_knows true e = let none = eqb-true (enqueue_count all) 0 e in let parts = count-ops all in record {
+      batch_knows true e = let none = eqb-true (enqueue_count all) 0 e in let parts = count-ops all is.1 in record {
         call = (nothing_yet, (draft_knows, (none_filled, (((λ _. refl), λ some. absurd (some refl)), ((none, omega arith), tt)))));
         here = (tt, tt);
       }
@@ -96,10 +96,11 @@ module _ (z : LaneSizes) (s : State) (L : Lawful z s) (c : ℕ) where
         positive n ne = omega arith
 
     first_knows : (ops : List Op) → IsCommand ops → AtPoint z (world s L.ghost) c (begun z (length s.history) c (s.callers c) ops) (first_point z c (s.callers c) ops)
-    first_knows [] is = let some = is in absurd (omega arith)
+    first_knows [] is = let some = is.0 in absurd (omega arith)
     first_knows (Enq v ∷ []) is = record { call = (nothing_yet, ((refl, known_caller, refl), tt)); here = (seeks_first false, tt) }
     first_knows (Deq ∷ []) is = record { call = (nothing_yet, ((refl, known_caller, refl), tt)); here = tt }
-    first_knows (op ∷ op' ∷ ops) is = batch_knows op op' ops (eqb (enqueue_count (op ∷ op' ∷ ops)) 0) refl
+    first_knows (Shut ∷ []) is = absurd is.1
+    first_knows (op ∷ op' ∷ ops) is = batch_knows op op' ops is (eqb (enqueue_count (op ∷ op' ∷ ops)) 0) refl
 
   -- what is kept of the last command, as the next one starts
   kept_begun : (ops : List Op) → Kept s.history c (begun z (length s.history) c (s.callers c) ops)

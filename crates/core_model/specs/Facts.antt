@@ -3,8 +3,10 @@ use Rattle.std.specs.Prelude.{◌≡◌, ◌≢◌, ℕ, suc, ◌+◌, ◌-◌, 
 use Rattle.bq_model.specs.declared.op.Op.{Op}
 use Rattle.bq_model.specs.declared.group.Group.{Group}
 use Rattle.bq_model.specs.History.{last_queue}
+use Rattle.bq_model.specs.NoShut.{NoShut}
 use Rattle.bq_model.specs.Values.{enqueued}
 use Rattle.excess_count.specs.Got.{values_from}
+use Rattle.excess_count.specs.Unhindered.{Unhindered}
 use Rattle.word_rows.specs.Order.{order_word_of}
 use Rattle.word_rows.specs.declared.place.Place.{Place}
 use Rattle.word_rows.specs.declared.link_word.LinkWord.TheVariants.{Nil}
@@ -61,6 +63,7 @@ pub record IsDraft (z : LaneSizes) (c : ℕ) (m : Command) (n : Notice) : Type 0
   pub known : c < z.callers
   pub describes : Describes c m n
   pub several : 1 < length m.ops
+  pub plain : NoShut m.ops
 
 -- The announcement a of caller c is decided at the position i, and the group of its batch stands in the history behind n groups or
 -- more, on the queue of the rows from its old dummy up to there.
@@ -70,17 +73,20 @@ pub record Linearized (z : LaneSizes) (w : World) (c a i n : ℕ) (g : Group) : 
   pub stands : w.history ≡ (pre ++ g ∷ []) ++ post
   pub since_start : n ≤ length pre
   pub counts : (w.memory.notice a).counts ≡ counts_of g.ops
+  -- it has no Shut, and enqueues nothing where the queue was shut
+  pub plain : NoShut g.ops
+  pub unhindered : Unhindered (last_queue pre) g.ops
   -- The position of the old dummy. The queue was as long as the rows behind it up to the old tail, or these are enough for
   -- all its dequeues.
   pub dummy : ℕ
   pub old_head : (w.memory.notice a).old_head ≡ at z.first w.ghost.path dummy
   pub before : dummy ≤ i
-  pub no_shorter : i - dummy ≤ length (last_queue pre)
-  pub length_queue : (length (last_queue pre) ≡ i - dummy) ⊎ (excess_of g.ops ≤ i - dummy)
+  pub no_shorter : i - dummy ≤ length (last_queue pre).values
+  pub length_queue : (length (last_queue pre).values ≡ i - dummy) ⊎ (excess_of g.ops ≤ i - dummy)
   pub inside : dummy + passes (w.memory.notice a).counts (i - dummy) < positions w.ghost
   -- the values that the batch gets are those of the rows behind the old dummy; these rows are there, and its owner has yet to
   -- mark them and the old dummy
-  pub values : take (successes_of (w.memory.notice a).counts (i - dummy)) (values_from (last_queue pre) g.ops) ≡ run (λ j. w.memory.value (w.ghost.path j)) (suc dummy) (successes_of (w.memory.notice a).counts (i - dummy))
+  pub values : take (successes_of (w.memory.notice a).counts (i - dummy)) (values_from (last_queue pre).values g.ops) ≡ run (λ j. w.memory.value (w.ghost.path j)) (suc dummy) (successes_of (w.memory.notice a).counts (i - dummy))
   pub rows : (x : ℕ) → x ≤ successes_of (w.memory.notice a).counts (i - dummy) → 0 < passes (w.memory.notice a).counts (i - dummy) → On w (dummy + x) (w.ghost.path (dummy + x))
   pub to_pass : (x : ℕ) → x < passes (w.memory.notice a).counts (i - dummy) → w.ghost.passer (dummy + x) ≡ owes c
   pub to_read : (x : ℕ) → 0 < x → x ≤ successes_of (w.memory.notice a).counts (i - dummy) → w.ghost.reader (dummy + x) ≡ owes c

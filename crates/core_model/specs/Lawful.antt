@@ -3,7 +3,9 @@ use Rattle.std.specs.Prelude.{◌≡◌, ◌≢◌, ◌⊎◌, ℕ, suc, ◌+◌
 use Rattle.bq_model.specs.declared.op.Op.{Op}
 use Rattle.bq_model.specs.declared.group.Group.{Group}
 use Rattle.bq_model.specs.History.{operations, last_queue}
-use Rattle.bq_model.specs.Own.{mine, items_from}
+use Rattle.bq_model.specs.Own.{mine, no_items, items_from}
+use Rattle.bq_model.specs.NoShut.{NoShut, NeverShut}
+use Rattle.bq_model.specs.Queue.{unshut}
 use Rattle.bq_model.specs.Proper.{IsProper}
 use Rattle.bq_model.specs.Values.{enqueued}
 use Rattle.word_rows.specs.declared.place.Place.{Place}
@@ -33,9 +35,14 @@ use Rattle.lane_steps.specs.declared.point.Hold.TheVariants.{Free, Names, Held}
 abbrev pub shown_queue : (ℕ → ℕ) → Ghost → List ℕ
 shown_queue value g = run (λ i. value (g.path i)) (suc (g.head + g.shown)) g.queued
 
+-- A proper history in which no group shuts the queue.
+pub record PlainHistory (callers : ℕ) (h : List Group) : Type 0 where
+  pub proper : IsProper callers h
+  pub never_shut : NeverShut h
+
 -- who enqueued each value of the last queue
 abbrev pub queue_owners : List Group → List ℕ
-queue_owners h = map (λ item. item.caller) (items_from [] h)
+queue_owners h = map (λ item. item.caller) (items_from no_items h).items
 
 -- the homes of the rows behind the shown head
 abbrev pub shown_owners : (ℕ → ℕ) → Ghost → List ℕ
@@ -193,6 +200,7 @@ HelpsOwn _ = ⊥
 pub record Told (home value path : ℕ → ℕ) (stage : Stage) (notice : Notice) (c : ℕ) (k : Caller) : Type 0 where
   pub describes : Describes c (command k) notice
   pub several : 1 < length k.ops
+  pub plain : NoShut k.ops
   pub first : home notice.first ≡ c
   pub last : home notice.last ≡ c
   pub helps : HelpsOwn k.point
@@ -247,9 +255,9 @@ pub record OfCaller (z : LaneSizes) (w : World) (c : ℕ) (k : Caller) : Type 0 
 
 pub record Lawful (z : LaneSizes) (s : State) : Type 0 where
   pub ghost : Ghost
-  -- the history is proper, and the shown queue is its last queue
-  pub history : IsProper z.callers s.history
-  pub queue : last_queue s.history ≡ shown_queue s.memory.value ghost
+  -- the history is proper, and the shown queue is its last queue, which isn't shut
+  pub history : PlainHistory z.callers s.history
+  pub queue : last_queue s.history ≡ unshut (shown_queue s.memory.value ghost)
   -- each of its values stands in a row of the caller that enqueued it
   pub owners : queue_owners s.history ≡ shown_owners z.home ghost
   pub sizes : IsLane z

@@ -1,11 +1,12 @@
 -- The shown queue, by the words alone.
-use Rattle.std.specs.Prelude.{◌≡◌, ℕ, zero, suc, ◌-◌, ◌==◌, ◌||◌, Bool, false, not, if◌then◌else◌, List, [], ◌∷◌, Option, Some, None}
+use Rattle.std.specs.Prelude.{◌≡◌, ℕ, zero, suc, ◌-◌, ◌==◌, ◌||◌, Bool, true, false, not, if◌then◌else◌, List, [], ◌∷◌, Option, Some, None}
 use Rattle.word_rows.specs.declared.place.Place.{Place}
 use Rattle.word_rows.specs.declared.head_word.HeadWord.{HeadWord}
 use Rattle.word_rows.specs.declared.head_word.HeadWord.TheVariants.{Node, Ann}
 use Rattle.word_rows.specs.declared.link_word.LinkWord.{LinkWord}
 use Rattle.word_rows.specs.declared.link_word.LinkWord.TheVariants.{Nil, Single, Chain, Shut}
 use Rattle.excess_count.specs.Counts.{successes_of}
+use Rattle.bq_model.specs.Queue.{Queue}
 use Rattle.lane_steps.specs.State.{Memory}
 use Rattle.lane_steps.specs.Act.{is_unknown}
 use Rattle.lane_steps.specs.Stopper.{is_stopped}
@@ -18,10 +19,15 @@ linked_row (Single r) = Some r
 linked_row (Chain r) = Some r
 linked_row Shut = None
 
--- these are the values of the rows behind r, along the links until Nil
-abbrev pub Along : Memory → ℕ → List ℕ → Type 0
-Along m r [] = m.link r ≡ Nil
-Along m r (v ∷ vs) = (n : ℕ) × (linked_row (m.link r) ≡ Some n) × (m.value n ≡ v) × Along m n vs
+-- the link of the last row of a list that is shut, or isn't
+abbrev pub end_word : Bool → LinkWord
+end_word true = Shut
+end_word false = Nil
+
+-- these are the values of the rows behind r, along the links until Shut, or until Nil
+abbrev pub Along : Memory → Bool → ℕ → List ℕ → Type 0
+Along m shut r [] = m.link r ≡ end_word shut
+Along m shut r (v ∷ vs) = (n : ℕ) × (linked_row (m.link r) ≡ Some n) × (m.value n ≡ v) × Along m shut n vs
 
 -- the row so many links behind r; r itself where there is no link
 abbrev pub follow : LinkWord → ℕ → ℕ
@@ -62,5 +68,5 @@ shown_head m (Ann a n) = if is_decided m a
     else (m.notice a).old_head.row
 
 -- the words show this queue
-abbrev pub Shows : Memory → List ℕ → Type 0
-Shows m queue = Along m (shown_head m m.head) queue
+abbrev pub Shows : Memory → Queue → Type 0
+Shows m queue = Along m queue.shut (shown_head m m.head) queue.values

@@ -65,4 +65,4 @@ module _ (z : LaneSizes) (s : State) (L : Lawful z s) (c : ℕ) where
   lands_at t aside is false e same = leaves_at t aside e (same refl)
   lands_at t aside is true e same = let g : Group = added t in let h : List Group = s.history in
       let grown_is : history_after (linearizes t (read s.memory (target c t))) h g ≡ h ++ g ∷ [] = ap (λ (b : Bool). history_after b h g) e in
-      inl (subst (λ (new : List Group). rank s < rank_of (then t) new) (sym grown_is) (adds_rank (then t) g z.callers (subst (IsProper z.callers) grown_is (preserves_at z s L c t is).history)))
+      inl (subst (λ (new : List Group). rank s < rank_of (then t) new) (sym grown_is) (adds_rank (then t) g z.callers (subst (IsProper z.callers) grown_is (preserves_at z s L c t is).history.proper)))

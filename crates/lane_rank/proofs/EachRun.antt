@@ -2,7 +2,7 @@
 use Rattle.std.proofs.Common.{ℕ, suc, ◌+◌, ◌-◌, ◌*◌, ◌≤◌, Bool, true, false, List, [], ◌∷◌, length, eqb, sym, subst, arith, mul-le-mul_right}
 use Rattle.std.proofs.lemmas.List.Sums.{count_by-le-length}
 use Rattle.bq_model.specs.declared.op.Op.{Op}
-use Rattle.bq_model.specs.declared.op.Op.TheVariants.{Enq, Deq}
+use Rattle.bq_model.specs.declared.op.Op.TheVariants.{Enq, Deq, Shut}
 use Rattle.bq_model.specs.declared.shape.Shape.{Shape}
 use Rattle.excess_count.specs.Excess.{is_enqueue, enqueue_count}
 use Rattle.lane_steps.specs.Functions.{put}
@@ -33,6 +33,7 @@ module _ (z : Shape) (n c : ℕ) (k : Caller) where
   first_light [] short = omega arith
   first_light (Enq v ∷ []) short = omega arith
   first_light (Deq ∷ []) short = omega arith
+  first_light (Shut ∷ []) short = omega arith
   first_light (op ∷ op' ∷ ops) short = by (eqb (enqueue_count (op ∷ op' ∷ ops)) 0) where
     few : enqueues_left most_count z (begins_as (op ∷ op' ∷ ops)) * row_weight most_count z ≤ z.batch * row_weight most_count z
     few = mul-le-mul_right (row_weight most_count z) (let most = count_by-le-length is_enqueue (op ∷ op' ∷ ops) in omega arith)

@@ -3,7 +3,7 @@ use Rattle.std.proofs.Common.{◌≡◌, ◌⊎◌, inl, inr, ◌==◌, ℕ, ◌
 use mathlib.Core.Logic.{dite}
 use native.Mathlib.Decide.{ℕ_discrete}
 use Rattle.bq_model.specs.declared.op.Op.{Op}
-use Rattle.bq_model.specs.declared.op.Op.TheVariants.{Enq, Deq}
+use Rattle.bq_model.specs.declared.op.Op.TheVariants.{Enq, Deq, Shut}
 use Rattle.bq_model.specs.declared.shape.Shape.{Shape}
 use Rattle.excess_count.specs.Excess.{enqueue_count}
 use Rattle.lane_steps.specs.Functions.{put}
@@ -102,6 +102,7 @@ module _ (z : Shape) (s : State) (o i : ℕ → ℕ) (R : Ranked z s o i) (d : �
   at_first [] = bare Idle refl refl
   at_first (Enq v ∷ []) = bare _ refl refl
   at_first (Deq ∷ []) = bare _ refl refl
+  at_first (Shut ∷ []) = bare Idle refl refl
   at_first (op ∷ op' ∷ os) = by (op ∷ op' ∷ os) (draft_of d (s.callers d) (op ∷ op' ∷ os)) (enqueue_count (op ∷ op' ∷ os) == 0) where
     by : (xs : List Op) (m : Notice) (b : Bool) → Keeps s (batch_point (lane_sizes z) d xs m b) o' i'
     by xs m true = bare (batch_point (lane_sizes z) d xs m true) refl refl

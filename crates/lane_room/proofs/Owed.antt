@@ -5,7 +5,7 @@ use Rattle.bq_model.specs.declared.op.Op.{Op}
 use Rattle.bq_model.specs.declared.shape.Shape.{Shape}
 use Rattle.excess_count.specs.declared.counts.Counts.{Counts}
 use Rattle.excess_count.specs.Counts.{counts_of, successes_of}
-use Rattle.excess_count.proofs.ExcessLaws.{count-ops}
+use Rattle.core_model.proofs.Excess.{counted_most}
 use Rattle.node_guard.specs.Pick.{among}
 use Rattle.lane_steps.specs.declared.point.AnswerPoint.TheVariants as answer
 use Rattle.lane_steps.specs.declared.point.Back.{Back}
@@ -49,7 +49,7 @@ within a n b m x from to is = let y = in_upto a n x is in let low = y.0 in let h
 
 -- a batch gets no more values than it has operations, and passes one more row at most
 gets_few : (ops : List Op) (n : ℕ) → successes_of (counts_of ops) n ≤ length ops
-gets_few ops n = let all = count-ops ops in omega (arith, all)
+gets_few ops n = let all = counted_most ops in omega (arith, all)
 
 passes_few : (k : Counts) (n : ℕ) → passes k n ≤ suc (successes_of k n)
 passes_few k n = by (is_stopped k n) where

@@ -1,8 +1,9 @@
 -- The start of a command by an idle caller, and an empty lane.
 use Rattle.std.specs.Prelude.{ℕ, ◌+◌, ◌<◌, Bool, List, [], ◌∷◌, length, get_or, None, ◌==◌, true, false}
 use Rattle.bq_model.specs.declared.op.Op.{Op}
-use Rattle.bq_model.specs.declared.op.Op.TheVariants.{Enq, Deq}
+use Rattle.bq_model.specs.declared.op.Op.TheVariants.{Enq, Deq, Shut}
 use Rattle.bq_model.specs.History.{operations}
+use Rattle.bq_model.specs.NoShut.{NoShut}
 use Rattle.excess_count.specs.Excess.{enqueue_count}
 use Rattle.bq_model.specs.Values.{enqueued}
 use Rattle.word_rows.specs.declared.head_word.HeadWord.TheVariants.{Node}
@@ -27,9 +28,9 @@ use Rattle.lane_steps.specs.State.{Caller, State}
 abbrev pub PassesAllowance : LaneSizes → Caller → ℕ → Type 0
 PassesAllowance z k more = z.allowance < length (operations k.mine) + more
 
--- One operation is a plain call, and more are a batch.
+-- One operation is a plain call, and more are a batch. None is a Shut.
 abbrev pub IsCommand : List Op → Type 0
-IsCommand ops = 0 < length ops
+IsCommand ops = (0 < length ops) × NoShut ops
 
 -- what the batch of caller c is to say
 abbrev pub draft_of : ℕ → Caller → List Op → Notice
@@ -45,6 +46,7 @@ abbrev pub first_point : LaneSizes → ℕ → Caller → List Op → Point
 first_point z c k [] = Idle
 first_point z c k (Enq v ∷ []) = search z c (taking.Enqueue v)
 first_point z c k (Deq ∷ []) = (point.Dequeue deq.LoadHead)
+first_point z c k (Shut ∷ []) = Idle
 first_point z c k (op ∷ next ∷ ops) = batch_point z c (op ∷ next ∷ ops) (draft_of c k (op ∷ next ∷ ops)) (enqueue_count (op ∷ next ∷ ops) == 0)
 
 -- Of caller c, which keeps k, when the history has n groups: its command starts.

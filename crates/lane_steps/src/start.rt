@@ -39,6 +39,7 @@ fn plain(shape: &Shape, caller: u32, op: Op) -> Point
     match op {
         Op::Enq(value) => search(shape, caller, Taking::Enqueue(value)),
         Op::Deq => Point::Dequeue(DequeuePoint::LoadHead),
+        Op::Shut => Point::Idle,
     }
 }
 
