@@ -61,6 +61,7 @@ enum {
     BQ_MADE = 0,    // an enqueue was made
     BQ_GOT = 1,     // a dequeue took the value
     BQ_NOTHING = 2, // a dequeue found no value
+    BQ_REFUSED = 3, // an enqueue found the lane shut, which no call here does
 };
 
 typedef struct bq_answer {

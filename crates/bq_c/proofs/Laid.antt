@@ -1,17 +1,18 @@
 -- Operations are laid out one after another, and as many answers come.
-use Rattle.std.proofs.Common.{◌≡◌, ◌<◌, ◌+◌, ◌++◌, ℕ, suc, List, [], ◌∷◌, length, map, take, get_or, All, refl, sym, ap, subst, ◌∙◌}
+use Rattle.std.proofs.Common.{◌≡◌, ◌<◌, ◌+◌, ◌++◌, ℕ, zero, suc, List, [], ◌∷◌, length, map, take, get_or, All, refl, sym, ap, subst, ◌∙◌}
 use Rattle.std.proofs.lemmas.List.{map_more, take_more}
 use Rattle.std.proofs.lemmas.List.Elements.{All-push}
 use Rattle.bq_model.specs.declared.op.Op.{Op}
 use Rattle.bq_model.specs.declared.op.Answer.{Answer}
-use Rattle.bq_model.specs.Queue.{queue_after}
+use Rattle.bq_model.specs.NoShut.{NoShut}
+use Rattle.bq_model.specs.Queue.{Queue, queue_after}
 use Rattle.bq_model.specs.Replay.{answers_from}
 use Rattle.bq_model.specs.declared.group.Group.{Group}
 use Rattle.bq_model.specs.Grows.{Grew}
 use Rattle.bq_c.specs.declared.crossing.BqOp.{BqOp}
-use Rattle.bq_c.specs.Crossing.{IsKnown, op_of}
+use Rattle.bq_c.specs.Crossing.{IsKnown, by_kind, op_of}
 
-one_each : (q : List ℕ) (ops : List Op) → length (answers_from q ops) ≡ length ops
+one_each : (q : Queue) (ops : List Op) → length (answers_from q ops) ≡ length ops
 one_each q [] = refl
 one_each q (op ∷ ops) = ap suc (one_each (queue_after q op) ops)
 
@@ -21,6 +22,15 @@ same_length (op ∷ ops) = ap suc (same_length ops)
 
 pub as_many : (c : ℕ) (old new : List Group) (ops : List BqOp) (batch : List Op) (given answers : List Answer) → batch ≡ map op_of ops → Grew c batch given old new → answers ≡ given → length answers ≡ length ops
 as_many c old new ops batch given answers laid grew same = ap length (same ∙ grew.answered) ∙ (one_each _ batch ∙ (ap length laid ∙ same_length ops))
+
+-- none of them is a Shut
+pub laid_plain : (ops : List BqOp) → NoShut (map op_of ops)
+laid_plain [] = tt
+laid_plain (op ∷ ops) = by op.kind where
+  by : (kind : ℕ) → NoShut (by_kind kind op.value ∷ map op_of ops)
+  by zero = laid_plain ops
+  by (suc zero) = laid_plain ops
+  by (suc (suc k)) = laid_plain ops
 
 -- the operations so far, and one more
 pub next_laid : (ops : List BqOp) (i : ℕ) (d : BqOp) (old new : List Op) → i < length ops → old ≡ map op_of (take i ops) → new ≡ old ++ op_of (get_or ops i d) ∷ [] → new ≡ map op_of (take (i + 1) ops)

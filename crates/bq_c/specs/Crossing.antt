@@ -3,7 +3,7 @@ use Rattle.std.specs.Prelude.{◌≡◌, ◌⊎◌, ℕ, zero, suc, List, map, A
 use Rattle.bq_model.specs.declared.op.Op.{Op}
 use Rattle.bq_model.specs.declared.op.Op.TheVariants.{Enq, Deq}
 use Rattle.bq_model.specs.declared.op.Answer.{Answer}
-use Rattle.bq_model.specs.declared.op.Answer.TheVariants.{Done, Got, Empty}
+use Rattle.bq_model.specs.declared.op.Answer.TheVariants.{Done, Got, Empty, Refused}
 use Rattle.bq_model.specs.Grows.{the_caller, Grew}
 use Rattle.bq_lane.specs.Pass.{PassState}
 use Rattle.bq_c.specs.declared.crossing.BqOp.{BqOp}
@@ -25,6 +25,7 @@ abbrev pub crossed_answer : Answer → BqAnswer
 crossed_answer Done = record { kind = 0; value = 0 }
 crossed_answer (Got value) = record { kind = 1; value = value }
 crossed_answer Empty = record { kind = 2; value = 0 }
+crossed_answer Refused = record { kind = 3; value = 0 }
 
 -- The caller of the pass made these operations, each of a known kind, as one group, and the answers that they got are written.
 pub record Applied (ops : List BqOp) (answers : List BqAnswer) (old new : PassState) : Type 0 where

@@ -1,5 +1,6 @@
 // Operations and answers as C has them.
 ghost use Rattle.std.specs.Prelude.{◌≡◌, ◌<◌, ◌≤◌, ◌++◌, ◌↔◌, [], ◌∷◌, true, length, map, All};
+ghost use Rattle.bq_model.specs.NoShut.{NoShut};
 ghost use Rattle.bq_c.specs.Crossing.{IsKnown, op_of, crossed_answer};
 
 use bq_model::{Answer, Batch, Op};
@@ -23,6 +24,8 @@ const MADE: u32 = 0;
 const GOT: u32 = 1;
 /// The kind of an answer to a dequeue that found no value.
 const NOTHING: u32 = 2;
+/// The kind of an answer to an enqueue that found the queue shut.
+const REFUSED: u32 = 3;
 
 /// An answer. It has a value where a dequeue took one, and else 0.
 #[repr(C)]
@@ -35,6 +38,7 @@ pub struct BqAnswer {
 // Appends the operation. Whether its kind is known.
 fn put(batch: &mut Batch, op: BqOp) -> bool
     requires room { length batch.old.items < batch.old.capacity }
+    requires no_shut { NoShut batch.old.items }
     ensures known { (result ≡ true) ↔ IsKnown op }
     ensures appended { result ≡ true → batch.new.items ≡ batch.old.items ++ op_of op ∷ [] }
     ensures capacity { batch.new.capacity ≡ batch.old.capacity }
@@ -78,6 +82,10 @@ fn crossed(answer: Answer) -> BqAnswer
         Answer::Got(value) => BqAnswer { kind: GOT, value },
         Answer::Empty => BqAnswer {
             kind: NOTHING,
+            value: 0,
+        },
+        Answer::Refused => BqAnswer {
+            kind: REFUSED,
             value: 0,
         },
     }

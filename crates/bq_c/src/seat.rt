@@ -94,7 +94,7 @@ impl Seat {
                 DONE
             }
             Ok(Answer::Empty) => EMPTY,
-            Ok(Answer::Done) => unreachable!(),
+            Ok(Answer::Done | Answer::Refused) => unreachable!(),
             Err(refusal) => of_refusal(refusal),
         }
     }

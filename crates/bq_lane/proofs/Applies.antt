@@ -62,6 +62,7 @@ module _ (p q : Seat ℕ View) (n : ℕ) (ops : List Op) (xs : List Answer) (a :
     heard = e.heard;
     idle = e.idle;
     proper = e.knows.proper;
+    never_shut = e.knows.never_shut;
     own = e.knows.own e.idle;
     allowed = subst (Allowed (lane_sizes q.me.0.shape) q.me.0.kept.mine) e.none_left e.knows.allowed;
     agrees = e.agrees;

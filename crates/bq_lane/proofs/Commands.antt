@@ -9,6 +9,7 @@ use Rattle.bq_model.specs.declared.group.Group.{Group}
 use Rattle.bq_model.specs.declared.shape.Shape.{Shape}
 use Rattle.bq_model.specs.History.{operations}
 use Rattle.bq_model.specs.Own.{mine}
+use Rattle.bq_model.specs.NoShut.{NoShut}
 use Rattle.bq_model.specs.Proper.{IsProper}
 use Rattle.bq_model.specs.Values.{enqueued}
 use Rattle.bq_model.proofs.Histories.{operations-push}
@@ -29,7 +30,7 @@ use Rattle.lane_rule.specs.Plays.{IsIdle}
 use Rattle.lane_rule.specs.Rule.{caller_of}
 use Rattle.lane_rule.specs.Seating.{held_as, Holds, Idles}
 use Rattle.lane_rule.proofs.FirstPoints.{first_ready}
-use Rattle.bq_lane.specs.Applied.{Rested, Applied, Refused}
+use Rattle.bq_lane.specs.Applied.{Rested, Applied, Declined}
 use Rattle.lane_course.specs.Running.{Agrees}
 use Rattle.lane_course.specs.Scratch.{keeping, SameRoom}
 use Rattle.lane_course.specs.declared.scratch.Scratch.{Scratch}
@@ -41,8 +42,8 @@ pub some_operation : (ops : List Op) → ops ≢ [] → 0 < length ops
 some_operation [] some = absurd (some refl)
 some_operation (op ∷ ops) some = omega arith
 
-pub is_command : (ops : List Op) → ops ≢ [] → IsCommand ops
-is_command ops some = some_operation ops some
+pub is_command : (ops : List Op) → ops ≢ [] → NoShut ops → IsCommand ops
+is_command ops some plain = (some_operation ops some, plain)
 
 module _ (me : Me ℕ View) (shape : Shape) (caller : ℕ) (batches : ℕ) (operated : ℕ) (hand : Scratch) (r : Rests me shape caller batches operated hand) (one : length (callers_of me.0) ≡ 1) (ops : List Op) where
   abbrev k : Caller
@@ -51,18 +52,18 @@ module _ (me : Me ℕ View) (shape : Shape) (caller : ℕ) (batches : ℕ) (oper
   counted : Counted shape me.0 caller batches operated hand
   counted = its me shape caller batches operated hand r one
 
-  module _ (some : ops ≢ []) (short : length ops ≤ shape.batch) (left : ¬ (shape.allowance < operated + length ops)) (words : (j : ℕ) → get_or (enqueued ops) j 0 < 2 ^ 64) where
+  module _ (some : ops ≢ []) (plain : NoShut ops) (short : length ops ≤ shape.batch) (left : ¬ (shape.allowance < operated + length ops)) (words : (j : ℕ) → get_or (enqueued ops) j 0 < 2 ^ 64) where
     pub may_start : MayStart me.0 ops
     may_start = record {
       idle = idle me shape caller batches operated hand r one;
-      command = is_command ops some;
+      command = is_command ops some plain;
       left = λ passes. left (subst (λ (n : ℕ). shape.allowance < n + length ops) (sym counted.operated_is) (subst (λ (s : Shape). PassesAllowance (lane_sizes s) (caller_of me.0.kept) (length ops)) r.planned passes));
       short = subst (λ (s : Shape). length ops ≤ s.batch) (sym r.planned) short;
       values = words;
     }
 
 module _ (p : Seat ℕ View) (shape : Shape) (caller : ℕ) (batches : ℕ) (operated : ℕ) (hand : Scratch) (r : Rests p.me shape caller batches operated hand) (one : length (callers_of p.me.0) ≡ 1) (ops : List Op)
-    (some : ops ≢ []) (short : length ops ≤ shape.batch) (left : ¬ (shape.allowance < operated + length ops)) (words : (j : ℕ) → get_or (enqueued ops) j 0 < 2 ^ 64) where
+    (some : ops ≢ []) (plain : NoShut ops) (short : length ops ≤ shape.batch) (left : ¬ (shape.allowance < operated + length ops)) (words : (j : ℕ) → get_or (enqueued ops) j 0 < 2 ^ 64) where
   known : Counted shape p.me.0 caller batches operated hand
   known = its p.me shape caller batches operated hand r one
 
@@ -76,10 +77,10 @@ module _ (p : Seat ℕ View) (shape : Shape) (caller : ℕ) (batches : ℕ) (ope
     shape = here;
     planned = r.planned ∙ same;
     alone = alone p.me shape caller batches operated hand r one;
-    may = may_start p.me shape caller batches operated hand r one ops some short left words;
+    may = may_start p.me shape caller batches operated hand r one ops some plain short left words;
     caller = sym known.caller_is;
     point = its_point;
-    ready = subst (Ready key caller) its_point (first_ready key caller (caller_of p.me.0.kept) ops (subst (λ (y : ℕ × Shape). y.0 < y.1.callers) (λ i. (sym known.caller_is i, same i)) known.known) (is_command ops some));
+    ready = subst (Ready key caller) its_point (first_ready key caller (caller_of p.me.0.kept) ops (subst (λ (y : ℕ × Shape). y.0 < y.1.callers) (λ i. (sym known.caller_is i, same i)) known.known) (is_command ops some plain));
   } where
     its_point : first_point (lane_sizes key) caller (caller_of p.me.0.kept) ops ≡ t
     its_point = sym (first (caller_of p.me.0.kept) (sym known.batches_are) ∙ (λ i. first_point (lane_sizes (here i)) caller (caller_of p.me.0.kept) ops))
@@ -112,6 +113,7 @@ module _ (p q : Seat ℕ View) (shape : Shape) (caller batches operated : ℕ) (
     between_calls = subst Idles (sym a.alone) tt;
     several = λ is. absurd (apart (sym a.alone ∙ is));
     proper = subst (λ (s : Shape). IsProper s.callers q.me.0.seen) planned' a.proper;
+    never_shut = a.never_shut;
     own = λ c k h. by c k (subst (λ (kind : Kind). Holds c k (held_as kind q.me.0)) a.alone h);
     alone = λ _. record {
       caller_is = before.caller_is ∙ sym a.same.caller;
@@ -142,6 +144,6 @@ module _ (p q : Seat ℕ View) (shape : Shape) (caller batches operated : ℕ) (
       let b = known.operated_is in omega (arith, e, b))
       (let b = known.batches_within in omega (arith, b, some))
 
-  pub rests_refused : Refused p ops hand' q → Rests q.me shape caller batches operated hand'
+  pub rests_refused : Declined p ops hand' q → Rests q.me shape caller batches operated hand'
   rests_refused a = let known = its p.me shape caller batches operated hand r one in rests_with p q shape caller batches operated hand hand' r one same a.rested batches operated
       (known.batches_are ∙ ap length (sym a.same_groups)) (known.operated_is ∙ ap (λ (gs : List Group). length (operations gs)) (sym a.same_groups)) known.batches_within

@@ -72,6 +72,7 @@ module _ (a b w : Me ℕ View) (shape other : Shape) (caller operated : ℕ) (ha
     between_calls = subst Idles (sym kind) tt;
     several = λ _. let all = ap length holds ∙ length-append (held_as a.0.kind a.0) (held_as b.0.kind b.0) in let one = some_held a shape caller batches operated hand ra in let two = some_held b other caller' batches' operated' hand' rb in omega (arith, all, one, two);
     proper = subst (λ (s : Shape). IsProper s.callers w.0.seen) (same ∙ ra.planned) whole.proper;
+    never_shut = whole.never_shut;
     own = λ c k h. ⊎_elim (of_first c k) (of_second c k) (holds_cases (held_as a.0.kind a.0) (held_as b.0.kind b.0) c k (subst (Holds c k) all_held h));
     alone = λ is. absurd (apart (sym kind ∙ is));
     reserves = ra.reserves;

@@ -5,6 +5,7 @@ use Rattle.bq_model.specs.declared.op.Op.{Op}
 use Rattle.bq_model.specs.declared.op.Answer.{Answer}
 use Rattle.bq_model.specs.Own.{mine}
 use Rattle.bq_model.specs.Proper.{IsProper}
+use Rattle.bq_model.specs.NoShut.{NeverShut}
 use Rattle.core_model.specs.Kept.{Stands}
 use Rattle.core_model.specs.Lawful.{Allowed}
 use Rattle.lane_steps.specs.Functions.{Distinct}
@@ -25,6 +26,7 @@ pub record Rested (p : Seat ℕ View) (a : Scratch) (q : Seat ℕ View) : Type 0
   pub heard : q.me.0.heard ≡ []
   pub idle : q.me.0.kept.point ≡ Idle
   pub proper : IsProper q.me.0.shape.callers q.me.0.seen
+  pub never_shut : NeverShut q.me.0.seen
   pub own : mine q.me.0.seen q.me.0.caller ≡ q.me.0.kept.mine
   pub allowed : Allowed (lane_sizes q.me.0.shape) q.me.0.kept.mine []
   pub agrees : Agrees q.me.0.kept a
@@ -40,7 +42,7 @@ pub record Applied (p : Seat ℕ View) (ops : List Op) (xs : List Answer) (a : S
   pub placed : length p.me.0.seen ≤ length stands.before
 
 -- The caller made no group of these operations. It had no room for their enqueues at some moment of the call.
-pub record Refused (p : Seat ℕ View) (ops : List Op) (a : Scratch) (q : Seat ℕ View) : Type 0 where
+pub record Declined (p : Seat ℕ View) (ops : List Op) (a : Scratch) (q : Seat ℕ View) : Type 0 where
   pub rested : Rested p a q
   pub same_groups : q.me.0.kept.mine ≡ p.me.0.kept.mine
   pub some : 0 < length (enqueued ops)
@@ -49,4 +51,4 @@ pub record Refused (p : Seat ℕ View) (ops : List Op) (a : Scratch) (q : Seat �
 -- what a call has done that made its group, or that was refused
 abbrev pub Called : Seat ℕ View → List Op → List Answer → Scratch → Seat ℕ View → Bool → Type 0
 Called p ops xs a q true = Applied p ops xs a q
-Called p ops xs a q false = Refused p ops a q × (xs ≡ [])
+Called p ops xs a q false = Declined p ops a q × (xs ≡ [])

@@ -7,6 +7,7 @@ use Rattle.bq_model.specs.declared.shape.Shape.{Shape}
 use Rattle.bq_model.specs.History.{operations}
 use Rattle.bq_model.specs.Own.{mine}
 use Rattle.bq_model.specs.Proper.{IsProper}
+use Rattle.bq_model.specs.NoShut.{NeverShut}
 use Rattle.lane_steps.specs.declared.point.Point.TheVariants.{Idle}
 use Rattle.lane_steps.specs.Functions.{Distinct}
 use Rattle.lane_steps.specs.LaneSizes.{lane_sizes}
@@ -62,6 +63,7 @@ pub record Rests (me : Me ℕ View) (shape : Shape) (caller batches operated : �
   pub between_calls : Idles me.0.kind
   pub several : me.0.kind ≡ Gathered → 2 ≤ length me.0.gathered
   pub proper : IsProper shape.callers me.0.seen
+  pub never_shut : NeverShut me.0.seen
   -- each of its callers is idle, and what it has seen has of it the groups that it made
   pub own : (c : ℕ) (k : Kept) → Holds c k (held_as me.0.kind me.0) → (k.point ≡ Idle) × (mine me.0.seen c ≡ k.mine)
   pub alone : me.0.kind ≡ Alone → Counted shape me.0 caller batches operated a

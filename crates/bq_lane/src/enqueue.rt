@@ -3,6 +3,7 @@ ghost use Rattle.std.specs.Prelude.{◌≡◌, ℕ, ◌<◌, ◌↔◌, [], ◌�
 ghost use Rattle.word_rows.specs.Sizes.{words_of};
 ghost use Rattle.bq_model.specs.declared.op.Op.{Op};
 ghost use Rattle.bq_model.specs.Grows.{the_caller, Grew, SawMore, AtSomePoint};
+ghost use Rattle.bq_model.specs.NoShut.{NeverShut};
 ghost use Rattle.bq_model.specs.Proper.{IsProper};
 ghost use Rattle.bq_model.specs.Rooms.{PassesAllowance, PassesRoom};
 ghost use Rattle.bq_model.specs.Values.{enqueued};
@@ -79,6 +80,7 @@ pub fn enqueue(
     ensures spent { IsErrOf result Refusal.Spent ↔ PassesAllowance shape.now seated.old.seen (the_caller seated.old.callers) (Op.Enq value ∷ []) }
     ensures full { IsErrOf result Refusal.Full → (0 < length (enqueued (Op.Enq value ∷ []))) × AtSomePoint (λ point. PassesRoom shape.now point (the_caller seated.old.callers) (Op.Enq value ∷ [])) seated.old.seen seated.new.seen }
     ensures proper { IsProper shape.now.callers seated.new.seen }
+    ensures never_shut { NeverShut seated.new.seen }
     ensures pass_stays { (seated.new.table ≡ seated.old.table) × (seated.new.shape ≡ seated.old.shape) × (seated.new.callers ≡ seated.old.callers) }
 {
     if seated.operated + 1 > shape.allowance() {

@@ -3,6 +3,7 @@ ghost use Rattle.std.specs.Prelude.{◌≡◌, ◌≢◌, ◌↔◌, ◌<◌, �
 ghost use Rattle.atomic_table.specs.Seated.{TableId};
 ghost use Rattle.bq_model.specs.declared.op.Op.{Op};
 ghost use Rattle.bq_model.specs.declared.op.Answer.{Answer};
+ghost use Rattle.bq_model.specs.NoShut.{NoShut, NeverShut};
 ghost use Rattle.bq_model.specs.Proper.{IsProper};
 ghost use Rattle.bq_model.specs.Grows.{the_caller, Grew, SawMore, AtSomePoint};
 ghost use Rattle.bq_model.specs.Rooms.{PassesAllowance, PassesRoom};
@@ -46,6 +47,7 @@ impl BqLane {
         requires of_this_lane { (seated.old.table ≡ self.now.table) × (seated.old.shape ≡ self.now.shape) }
         requires one_caller { length seated.old.callers ≡ 1 }
         requires some_operation { ops.now ≢ [] }
+        requires no_shut { NoShut ops.now }
         requires not_too_long { length ops.now ≤ self.now.shape.batch }
         requires room_for_answers { length ops.now ≤ out.old.capacity }
         ensures ok { OnOk result (Grew (the_caller seated.old.callers) ops.now out.new.items seated.old.seen seated.new.seen) }
@@ -56,6 +58,7 @@ impl BqLane {
         ensures spent { IsErrOf result Refusal.Spent ↔ PassesAllowance self.now.shape seated.old.seen (the_caller seated.old.callers) ops.now }
         ensures full { IsErrOf result Refusal.Full → (0 < length (enqueued ops.now)) × AtSomePoint (λ point. PassesRoom self.now.shape point (the_caller seated.old.callers) ops.now) seated.old.seen seated.new.seen }
         ensures proper { IsProper self.now.shape.callers seated.new.seen }
+        ensures never_shut { NeverShut seated.new.seen }
         ensures pass_stays { (seated.new.table ≡ seated.old.table) × (seated.new.shape ≡ seated.old.shape) × (seated.new.callers ≡ seated.old.callers) }
     {
         let operations = ops.len() as u64;
@@ -102,6 +105,7 @@ impl BqLane {
         ensures spent { IsErrOf result Refusal.Spent ↔ PassesAllowance self.now.shape seated.old.seen (the_caller seated.old.callers) (Op.Deq ∷ []) }
         ensures never_full { ¬ IsErrOf result Refusal.Full }
         ensures proper { IsProper self.now.shape.callers seated.new.seen }
+        ensures never_shut { NeverShut seated.new.seen }
         ensures pass_stays { (seated.new.table ≡ seated.old.table) × (seated.new.shape ≡ seated.old.shape) × (seated.new.callers ≡ seated.old.callers) }
     {
         let operations = 1;
@@ -173,6 +177,7 @@ impl Lane for BqLane {
         requires of_this_lane { (pass.old.table ≡ self.now.table) × (pass.old.shape ≡ self.now.shape) }
         requires one_caller { length pass.old.callers ≡ 1 }
         requires some_operation { batch.now.items ≢ [] }
+        requires no_shut { NoShut batch.now.items }
         requires not_too_long { length batch.now.items ≤ self.now.shape.batch }
         requires room_for_answers { length batch.now.items ≤ out.old.capacity }
         ensures ok { OnOk result (Grew (the_caller pass.old.callers) batch.now.items out.new.items pass.old.seen pass.new.seen) }
@@ -182,6 +187,7 @@ impl Lane for BqLane {
         ensures spent { IsErrOf result Refusal.Spent ↔ PassesAllowance self.now.shape pass.old.seen (the_caller pass.old.callers) batch.now.items }
         ensures full { IsErrOf result Refusal.Full → (0 < length (enqueued batch.now.items)) × AtSomePoint (λ point. PassesRoom self.now.shape point (the_caller pass.old.callers) batch.now.items) pass.old.seen pass.new.seen }
         ensures proper { IsProper self.now.shape.callers pass.new.seen }
+        ensures never_shut { NeverShut pass.new.seen }
         ensures pass_stays { (pass.new.table ≡ pass.old.table) × (pass.new.shape ≡ pass.old.shape) × (pass.new.callers ≡ pass.old.callers) }
 
         // A call that is refused with Spent makes no step.
@@ -198,6 +204,7 @@ impl Lane for BqLane {
         ensures spent { IsErrOf result Refusal.Spent ↔ PassesAllowance self.now.shape pass.old.seen (the_caller pass.old.callers) (Op.Enq v ∷ []) }
         ensures full { IsErrOf result Refusal.Full → (0 < length (enqueued (Op.Enq v ∷ []))) × AtSomePoint (λ point. PassesRoom self.now.shape point (the_caller pass.old.callers) (Op.Enq v ∷ [])) pass.old.seen pass.new.seen }
         ensures proper { IsProper self.now.shape.callers pass.new.seen }
+        ensures never_shut { NeverShut pass.new.seen }
         ensures pass_stays { (pass.new.table ≡ pass.old.table) × (pass.new.shape ≡ pass.old.shape) × (pass.new.callers ≡ pass.old.callers) }
         ensures spent_changes_nothing { IsErrOf result Refusal.Spent → pass.new ≡ pass.old }
     {
@@ -218,6 +225,7 @@ impl Lane for BqLane {
         ensures spent { IsErrOf result Refusal.Spent ↔ PassesAllowance self.now.shape pass.old.seen (the_caller pass.old.callers) (Op.Deq ∷ []) }
         ensures never_full { ¬ IsErrOf result Refusal.Full }
         ensures proper { IsProper self.now.shape.callers pass.new.seen }
+        ensures never_shut { NeverShut pass.new.seen }
         ensures pass_stays { (pass.new.table ≡ pass.old.table) × (pass.new.shape ≡ pass.old.shape) × (pass.new.callers ≡ pass.old.callers) }
         ensures spent_changes_nothing { IsErrOf result Refusal.Spent → pass.new ≡ pass.old }
     {

@@ -3,6 +3,7 @@ ghost use Rattle.std.specs.Prelude.{◌≡◌, ◌<◌, ◌≤◌, ℕ, [], ◌+
 ghost use Rattle.word_rows.specs.Sizes.{words_of};
 ghost use Rattle.bq_model.specs.History.{operations};
 ghost use Rattle.bq_model.specs.Own.{mine};
+ghost use Rattle.bq_model.specs.NoShut.{NeverShut};
 ghost use Rattle.bq_model.specs.Proper.{IsProper};
 ghost use Rattle.bq_model.specs.Grows.{the_caller, SawMore};
 ghost use Rattle.bq_lane.specs.Made.{first_view};
@@ -89,6 +90,7 @@ impl Seated {
         ensures goes_on_the_first { (c : ℕ) → Contains self.callers c → SawMore c self.seen result.seen }
         ensures goes_on_the_second { (c : ℕ) → Contains other.callers c → SawMore c other.seen result.seen }
         ensures proper { IsProper result.shape.callers result.seen }
+        ensures never_shut { NeverShut result.seen }
     {
         let Seated {
             token,

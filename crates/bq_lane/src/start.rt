@@ -18,7 +18,7 @@ fn put_value(puts: &mut Vec<u64>, op: Op)
 {
     match op {
         Op::Enq(value) => puts.push_reserved(value),
-        Op::Deq => {}
+        Op::Deq | Op::Shut => {}
     }
 }
 

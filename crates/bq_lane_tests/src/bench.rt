@@ -34,7 +34,7 @@ pub fn applied(
     let mut batch = Batch::new(alloc, 8)?;
     let mut out = Answers::new(alloc, 8)?;
     for op in ops {
-        if batch.len() < 8 {
+        if batch.len() < 8 && !matches!(op, Op::Shut) {
             batch.push(*op);
         }
     }

@@ -4,7 +4,7 @@ use Rattle.std.specs.VecDeque.{deque_len}
 use Rattle.atomic_table.specs.Seated.{TableId}
 use Rattle.atomic_table.specs.declared.shared.Seat.{Seat}
 use Rattle.bq_model.specs.declared.op.Op.{Op}
-use Rattle.bq_model.specs.declared.op.Op.TheVariants.{Enq, Deq}
+use Rattle.bq_model.specs.declared.op.Op.TheVariants.{Enq, Deq, Shut}
 use Rattle.bq_model.specs.declared.shape.Shape.{Shape}
 use Rattle.bq_model.specs.Values.{enqueued}
 use Rattle.excess_count.specs.Excess.{enqueue_count}
@@ -201,6 +201,7 @@ module _ (z : LaneSizes) (c : ℕ) (k : Caller) where
   first_changes_none [] = refl
   first_changes_none (Enq v ∷ []) = refl
   first_changes_none (Deq ∷ []) = refl
+  first_changes_none (Shut ∷ []) = refl
   first_changes_none (op ∷ next ∷ ops) = by (enqueue_count (op ∷ next ∷ ops) == 0) (draft_of c k (op ∷ next ∷ ops)) where
     by : (b : Bool) (n : Notice) → changes_lists (batch_point z c (op ∷ next ∷ ops) n b) ≡ false
     by true n = refl
@@ -232,7 +233,7 @@ module _ (id : TableId) (key s : Shape) (c : ℕ) (ops : List Op) (t : Point) (p
       enqueues = puts;
       agrees = agrees n;
       reserves = reserves;
-      some = at.may.command;
+      some = at.may.command.0;
       short = subst (λ (y : Shape). length ops ≤ y.batch) (at.planned ∙ sym at.shape) at.may.short;
       lists = record {
         reads = λ b r l is. absurd (none_changed n _ refl is);

@@ -5,6 +5,7 @@ use Rattle.bq_model.specs.declared.group.Group.{Group}
 use Rattle.bq_model.specs.declared.shape.Shape.{Shape}
 use Rattle.bq_model.specs.Own.{mine}
 use Rattle.bq_model.specs.Proper.{IsProper}
+use Rattle.bq_model.specs.NoShut.{NeverShut}
 use Rattle.word_rows.specs.Contents.{MayHold}
 use Rattle.word_rows.proofs.SizeLemmas.{rows_within}
 use Rattle.lane_steps.specs.LaneSizes.{LaneSizes, lane_sizes}
@@ -72,7 +73,8 @@ seen_ended s z c e = record {
 -- what the caller of a view knows that has seen the history
 pub knows : (key : Shape) (s : State) → Lawful (lane_sizes key) s → (w : View) → w.shape ≡ key → w.seen ≡ s.history → s.callers w.caller ≡ caller_of w.kept → Knows w
 knows key s L w shape seen shown = record {
-  proper = subst (λ (y : Shape × List Group). IsProper y.0.callers y.1) (λ i. (sym shape i, sym seen i)) L.history;
+  proper = subst (λ (y : Shape × List Group). IsProper y.0.callers y.1) (λ i. (sym shape i, sym seen i)) L.history.proper;
+  never_shut = subst NeverShut (sym seen) L.history.never_shut;
   own = λ idle. ap (λ (h : List Group). mine h w.caller) seen ∙ (idle_groups (lane_sizes key) s L w.caller (ap (λ (k : Caller). k.point) shown ∙ idle) ∙ ap (λ (k : Caller). k.mine) shown);
   allowed = subst (λ (y : Shape × Caller). Allowed (lane_sizes y.0) y.1.mine y.1.ops) (λ i. (sym shape i, shown i)) (L.callers w.caller).allowed;
   done = λ idle is. subst (λ (y : Shape × List Group × Caller). EndedDone record { memory = (opening (lane_sizes y.0)).memory; history = y.1; callers = λ _. y.2 } w.caller) (λ i. (sym shape i, sym seen i, shown i))

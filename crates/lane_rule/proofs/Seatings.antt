@@ -229,7 +229,8 @@ learns key slots id me is s r _ at _ = let w : View = caught_up me.0 r.core.hist
 
   whole : IsWhole (caught_up me.0 r.core.history)
   whole = record {
-    proper = subst (λ (z : Shape). IsProper z.callers r.core.history) (sym (subst (λ (k : Kind). SitsAs key r.core r.seat id k me.0) is (r.each_seat id me.0 at)).3) r.ranked.lawful.history;
+    proper = subst (λ (z : Shape). IsProper z.callers r.core.history) (sym (subst (λ (k : Kind). SitsAs key r.core r.seat id k me.0) is (r.each_seat id me.0 at)).3) r.ranked.lawful.history.proper;
+    never_shut = r.ranked.lawful.history.never_shut;
     own = λ c k has idle. own c k me.0.gathered (subst (λ (k : Kind). SitsAs key r.core r.seat id k me.0) is (r.each_seat id me.0 at)).0 has idle;
   }
 
@@ -279,4 +280,4 @@ closed_own key s r id v at is all c k has idle = by v.gathered mine.0 has where
   by (x ∷ xs) a h = ⊎_elim (λ (e : (x.caller ≡ c) × (x.kept ≡ k)). one (ap r.core.callers (sym e.0) ∙ (a.2 ∙ ap caller_of e.1))) (λ (t : Holds c k xs). by xs a.3 t) h
 
 pub closed_proper : (key : Shape) (s : table.State ℕ View) (r : Ruled key s) (v : View) → v.seen ≡ r.core.history → IsProper key.callers v.seen
-closed_proper key s r v all = subst (IsProper key.callers) (sym all) r.ranked.lawful.history
+closed_proper key s r v all = subst (IsProper key.callers) (sym all) r.ranked.lawful.history.proper

@@ -19,7 +19,7 @@ use Rattle.lane_steps.specs.Fits.{ActFits}
 use Rattle.lane_rule.specs.Rule.{caller_of}
 use Rattle.lane_rule.specs.Plays.{IsAt, Moves, IsIdle}
 use Rattle.bq_model.specs.declared.op.Op.{Op}
-use Rattle.bq_model.specs.declared.op.Op.TheVariants.{Enq, Deq}
+use Rattle.bq_model.specs.declared.op.Op.TheVariants.{Enq, Deq, Shut}
 use Rattle.lane_steps.specs.LaneSizes.{LaneSizes, lane_sizes}
 use Rattle.lane_steps.specs.declared.point.Notice.{Notice}
 use Rattle.lane_steps.specs.Start.{first_point, batch_point, draft_of}
@@ -56,6 +56,7 @@ begins_with : (z : LaneSizes) (c : ℕ) (k : Caller) (ops : List Op) → (l : Lo
 begins_with z c k [] = (_, refl)
 begins_with z c k (Enq v ∷ []) = (_, refl)
 begins_with z c k (Deq ∷ []) = (_, refl)
+begins_with z c k (Shut ∷ []) = (_, refl)
 begins_with z c k (op ∷ next ∷ ops) = by (enqueue_count (op ∷ next ∷ ops) == 0) (draft_of c k (op ∷ next ∷ ops)) where
   by : (b : Bool) (d : Notice) → (l : Location) × (act c (batch_point z c (op ∷ next ∷ ops) d b) ≡ Load l)
   by true d = (_, refl)

@@ -20,6 +20,7 @@ use Rattle.core_model.specs.Lawful.{Allowed}
 use Rattle.lane_rank.specs.Return.{left}
 use Rattle.core_model.specs.Ended.{EndedDone}
 use Rattle.bq_model.specs.Proper.{IsProper}
+use Rattle.bq_model.specs.NoShut.{NeverShut}
 use Rattle.bq_model.specs.Own.{mine}
 use Rattle.lane_rule.specs.declared.view.View.{View}
 use Rattle.lane_rule.specs.declared.view.Kind.TheVariants.{Alone}
@@ -40,6 +41,7 @@ seen_by v = record { memory = (opening (lane_sizes v.shape)).memory; history = v
 -- the view has seen the whole history, as its last step left it
 pub record Knows (v : View) : Type 0 where
   pub proper : IsProper v.shape.callers v.seen
+  pub never_shut : NeverShut v.seen
   pub own : v.kept.point ≡ point.Idle → mine v.seen v.caller ≡ v.kept.mine
   pub allowed : Allowed (lane_sizes v.shape) v.kept.mine v.kept.ops
   pub done : v.kept.point ≡ point.Idle → v.kept.outcome ≡ Some Done → EndedDone (seen_by v) v.caller

@@ -13,6 +13,7 @@ use Rattle.lane_rule.specs.declared.view.Kind.TheVariants.{Alone, Gathered}
 use Rattle.lane_rule.specs.Goes.{Ready, Goes}
 use Rattle.bq_model.specs.Own.{mine}
 use Rattle.bq_model.specs.Proper.{IsProper}
+use Rattle.bq_model.specs.NoShut.{NeverShut}
 use Rattle.lane_steps.specs.declared.point.Point.TheVariants.{Idle}
 use Rattle.lane_rule.specs.declared.view.Kept.{Kept}
 use Rattle.lane_rule.specs.Seating.{Holds}
@@ -65,9 +66,10 @@ pub record IsIdle (id : TableId) (key : Shape) (s : Shape) (c : ℕ) (ops : List
 abbrev pub Starts : Seat ℕ View → List Op → Content → Seat ℕ View → Type 0
 Starts p ops x q = (q.table_id ≡ p.table_id) × (q.id ≡ p.id) × ((m : ℕ) × (length p.me.0.seen ≤ m) × Goes (begun p.me.0 m ops) x q.me.0) × (q.me.1 ≡ p.me.1)
 
--- what the view has seen is proper, and has of each caller that it holds, idle, exactly the groups of its ended commands
+-- what the view has seen is proper, shuts nothing, and has of each caller that it holds, idle, exactly the groups of its ended commands
 pub record IsWhole (v : View) : Type 0 where
   pub proper : IsProper v.shape.callers v.seen
+  pub never_shut : NeverShut v.seen
   pub own : (c : ℕ) (k : Kept) → Holds c k v.gathered → k.point ≡ Idle → mine v.seen c ≡ k.mine
 
 -- a load after a gathering tells the whole history

@@ -13,7 +13,7 @@ use Rattle.lane_steps.specs.Functions.{put}
 use Rattle.lane_steps.specs.LaneSizes.{LaneSizes, lane_sizes}
 use Rattle.core_model.specs.Lawful.{Lawful}
 use Rattle.core_model.specs.Noted.{IsNoted}
-use Rattle.lane_steps.specs.Start.{begun}
+use Rattle.lane_steps.specs.Start.{IsCommand, begun}
 use Rattle.lane_steps.specs.State.{Caller, State, own_group}
 use Rattle.lane_steps.specs.Step.{next}
 use Rattle.core_model.proofs.Alone.{others_stay}
@@ -101,7 +101,7 @@ module _ (shape : Shape) (s : State) (L : Lawful (lane_sizes shape) s) (c : ℕ)
         (noted_commands (length (next (lane_sizes shape) s d).history) d (s.callers d) ((next (lane_sizes shape) s d).callers d) runs (step_noted (lane_sizes shape) s d))
     by false e = ap commands (others_stay (lane_sizes shape) s d c (λ same. differ (sym (eq_eqb d same) ∙ e)))
 
-  start_commands : (d : ℕ) (ops : List Op) → is_idle (s.callers d).point ≡ true → 0 < length ops
+  start_commands : (d : ℕ) (ops : List Op) → is_idle (s.callers d).point ≡ true → IsCommand ops
       → commands ((after_event shape s (event.Start d ops)).callers c) ≡ started_by shape s c (commands (s.callers c)) (event.Start d ops)
   start_commands d ops idle some = by (d == c) (ltb shape.allowance (length (operations (s.callers d).mine) + length ops)) refl where
     k : Caller

@@ -50,7 +50,7 @@ module _ (z : LaneSizes) (s : State) (L : Lawful z s) where
     by false i off idle = let e : length (mine s.history c) ≡ length (s.callers c).mine + 0 = ap length ((L.callers c).own_groups) ∙ (length-append (s.callers c).mine _ ∙ ap (λ (b : Bool). length (s.callers c).mine + length (cond b (own_group c (s.callers c) ∷ []) [])) off) in omega arith
 
   all_groups : total z.callers (λ c. length (mine s.history c)) ≡ length s.history
-  all_groups = total_groups z.callers s.history (recursion_from_All (λ (g : Group). g.caller < z.callers) s.history L.history.known)
+  all_groups = total_groups z.callers s.history (recursion_from_All (λ (g : Group). g.caller < z.callers) s.history L.history.proper.known)
 
   -- the groups of the history are no more than those that are due
   pub groups_due : length s.history ≤ total z.callers (λ c. due (s.callers c))
@@ -117,7 +117,7 @@ module _ (z : LaneSizes) (s : State) (L : Lawful z s) (c : ℕ) (runs : (s.calle
       pub owner_known : group_owner z c t < z.callers
       owner_known = let own = own_group (group_owner z c t) (s.callers (group_owner z c t)) in
           subst (λ (x : Group). x.caller < z.callers) (get_or-append_seam s.history own [] own)
-          (subst (All (λ (x : Group). x.caller < z.callers)) (grew g) (preserves_next z s L c).history.known (length s.history) own (let e = length-append s.history (own ∷ []) in omega arith))
+          (subst (All (λ (x : Group). x.caller < z.callers)) (grew g) (preserves_next z s L c).history.proper.known (length s.history) own (let e = length-append s.history (own ∷ []) in omega arith))
 
       own_more : length (mine (next z s c).history (group_owner z c t)) ≡ length (mine s.history (group_owner z c t)) + 1
       own_more = let own = own_group (group_owner z c t) (s.callers (group_owner z c t)) in ap (λ (h : List Group). length (mine h (group_owner z c t))) (grew g)

@@ -7,6 +7,7 @@ pub mod Openings
 pub mod Landings
 pub mod Refusals
 pub mod Sound
+pub mod Shuts
 pub mod Begins
 pub mod Enqueued
 pub mod Schedules

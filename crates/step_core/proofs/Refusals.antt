@@ -64,7 +64,7 @@ why_new room h c enqueues = record { some = λ runs. absurd (runs refl); counted
 
 -- a command that begins
 pub why_begun : (z : LaneSizes) (room : ℕ) (h : List Group) (n c : ℕ) (k : Caller) (ops : List Op) (enqueues : ℕ) → IsCommand ops → enqueues ≡ enqueue_count ops → KnowsWhy room h c (begun z n c k ops) enqueues
-why_begun z room h n c k ops enqueues command count = record { some = λ _. command; counted = λ _. count; passed = λ idle _. absurd (differ (sym (goes z c k ops command) ∙ ap is_idle idle)) } where
+why_begun z room h n c k ops enqueues command count = record { some = λ _. command.0; counted = λ _. count; passed = λ idle _. absurd (differ (sym (goes z c k ops command) ∙ ap is_idle idle)) } where
   differ : false ≡ true → ⊥
   differ e = cc e
 

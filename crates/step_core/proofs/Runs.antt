@@ -18,6 +18,12 @@ use Rattle.step_core.specs.Schedule.{cause_of, after_event, refused_or, schedule
 use Rattle.step_core.proofs.Landings.{idle_is}
 use Rattle.step_core.proofs.Begins.{command_is}
 
+-- a start that has no cause is of a command
+pub start_taken : (known takes idle : Bool) → cond known (cond takes (cond idle None (Some BusyCaller)) (Some BadBatch)) (Some BadCaller) ≡ None → takes ≡ true
+start_taken true true idle e = refl
+start_taken true false idle e = absurd (cc e)
+start_taken false takes idle e = absurd (cc e)
+
 module _ (shape : Shape) (s : State) (L : Lawful (lane_sizes shape) s) where
   -- a start that has no cause is of an idle caller, with a command
   pub can_start : (known takes idle : Bool) → cond known (cond takes (cond idle None (Some BusyCaller)) (Some BadBatch)) (Some BadCaller) ≡ None → (known ≡ true) × (takes ≡ true) × (idle ≡ true)

@@ -1,11 +1,11 @@
 // Lists of events.
-ghost use Rattle.std.specs.Prelude.{◌≡◌, ◌<◌, ℕ, nat_lt, IfOk, OnOk, Ok, Err, None};
+ghost use Rattle.std.specs.Prelude.{◌≡◌, ◌<◌, ◌≤◌, ℕ, nat_lt, true, length, IfOk, OnOk, Ok, Err, None};
 ghost use Rattle.step_core.specs.declared.schedule.EventCause.{EventCause};
 ghost use Rattle.step_core.specs.declared.schedule.ScheduleRefused.TheVariants.{Memory};
 ghost use Rattle.lane_steps.specs.LaneSizes.{lane_sizes};
-ghost use Rattle.lane_steps.specs.Start.{opening};
+ghost use Rattle.lane_steps.specs.Start.{IsCommand, opening};
 ghost use Rattle.step_core.specs.Machine.{caller_at, state_at};
-ghost use Rattle.step_core.specs.Commands.{is_command};
+ghost use Rattle.step_core.specs.Commands.{is_shut, none_shuts, is_command};
 ghost use Rattle.step_core.specs.Due.{is_idle};
 ghost use Rattle.step_core.specs.Schedule.{cause_of, after_event, schedule};
 
@@ -37,7 +37,7 @@ pub enum Event {
 pub enum EventCause {
     /// There is no such caller.
     BadCaller,
-    /// A command is started with no operation, or with more than the lane takes in a batch.
+    /// A command is started with no operation, with more than the lane takes in a batch, or with a Shut.
     BadBatch,
     /// A command is started by a caller that runs one.
     BusyCaller,
@@ -67,6 +67,24 @@ impl From<OutOfMemory> for ScheduleRefused {
     }
 }
 
+fn is_shut(op: Op) -> bool
+    ensures { result ≡ is_shut op }
+{
+    matches!(op, Op::Shut)
+}
+
+// Whether none of the operations is a Shut.
+fn none_shuts(ops: &[Op]) -> bool
+    ensures { result ≡ none_shuts ops.now }
+{
+    for op in ops {
+        if is_shut(*op) {
+            return false;
+        }
+    }
+    true
+}
+
 impl Machine {
     fn is_idle(&self, caller: u32) -> bool
         requires { caller < self.now.shape.callers }
@@ -81,11 +99,12 @@ impl Machine {
         caller < self.callers()
     }
 
-    // Whether the lane takes the operations as a command.
-    fn takes(&self, ops: &[Op]) -> bool
-        ensures { result ≡ is_command self.now.shape.batch ops.now }
+    /// Whether the lane takes the operations as a command.
+    pub fn takes(&self, ops: &[Op]) -> bool
+        ensures by_definition { result ≡ is_command self.now.shape.batch ops.now }
+        ensures can_start { result ≡ true → IsCommand ops.now × (length ops.now ≤ self.now.shape.batch) }
     {
-        !ops.is_empty() && ops.len() <= self.batch() as usize
+        !ops.is_empty() && ops.len() <= self.batch() as usize && none_shuts(ops)
     }
 
     // Why the event cannot happen now.

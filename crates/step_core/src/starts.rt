@@ -51,7 +51,7 @@ fn put_value(puts: &mut Vec<u64>, op: Op) -> Result<(), OutOfMemory>
 {
     match op {
         Op::Enq(value) => puts.push(value)?,
-        Op::Deq => {}
+        Op::Deq | Op::Shut => {}
     }
     Ok(())
 }

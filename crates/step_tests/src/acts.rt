@@ -1,6 +1,4 @@
 // Acts, as a table has them, and what they leave of a machine.
-ghost use Rattle.std.specs.Prelude.{◌≡◌, ◌≤◌, true, length};
-ghost use Rattle.lane_steps.specs.Start.{IsCommand};
 
 use bq_model::{Answer, Op, OutOfMemory};
 use std::alloc::Global;
@@ -16,16 +14,9 @@ pub enum Act<'a> {
     Finish(u32),
 }
 
-/// Whether the lane takes the operations as a command.
-fn takes(machine: &Machine, ops: &[Op]) -> bool
-    ensures { result ≡ true → IsCommand ops.now × (length ops.now ≤ machine.now.shape.batch) }
-{
-    !ops.is_empty() && ops.len() <= machine.batch() as usize
-}
-
 /// An idle caller starts the command, where it can.
 fn begin(machine: &mut Machine, caller: u32, ops: &[Op]) -> Result<(), OutOfMemory> {
-    if caller < machine.callers() && takes(machine, ops) && machine.next_kind(caller).is_none() {
+    if caller < machine.callers() && machine.takes(ops) && machine.next_kind(caller).is_none() {
         let _: Started = machine.start(caller, ops)?;
     }
     Ok(())

@@ -14,7 +14,9 @@ pub fn go_on(machine: &mut Machine, caller: u32, op: Op) -> Result<Option<StepKi
     match machine.next_kind(caller) {
         Some(_) => Ok(Some(machine.step(caller))),
         None => {
-            let _: Started = machine.start(caller, &[op])?;
+            if machine.takes(&[op]) {
+                let _: Started = machine.start(caller, &[op])?;
+            }
             Ok(None)
         }
     }

@@ -34,6 +34,7 @@ impl Owned {
                     Op::Deq => {
                         let _: Option<u32> = self.queued.pop_front();
                     }
+                    Op::Shut => {}
                 }
             }
             self.groups = self.groups.saturating_add(1);

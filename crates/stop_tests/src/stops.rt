@@ -24,6 +24,8 @@ fn answer_of(queue: &mut VecDeque<u64>, op: Op) -> Result<Answer, Fail> {
             Some(value) => Answer::Got(value),
             None => Answer::Empty,
         },
+        // No command here is one.
+        Op::Shut => Answer::Done,
     })
 }
 

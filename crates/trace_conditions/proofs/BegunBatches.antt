@@ -1,9 +1,9 @@
 -- The batches that have begun tell whether one goes on that had been left.
-use Rattle.std.proofs.Common.{◌≡◌, ◌≢◌, ℕ, ◌+◌, ◌-◌, ◌<◌, ◌≤◌, ◌⊎◌, inl, inr, Bool, true, false, true≢false, cond, List, length, get_or, Option, None, Some, arith, ap, sym, ◌∙◌, refl, subst}
+use Rattle.std.proofs.Common.{◌≡◌, ℕ, ◌+◌, ◌-◌, ◌<◌, ◌≤◌, ◌⊎◌, inl, inr, Bool, true, false, true≢false, cond, List, length, get_or, Option, None, Some, arith, ap, sym, ◌∙◌, refl, subst}
 use Rattle.std.proofs.lemmas.Bool.{cases_lt}
 use Rattle.std.proofs.lemmas.Cmp.{nat_cmp_total}
 use Rattle.std.proofs.lemmas.Map.Lookups.{exact_pairs, exact_unsigned}
-use Rattle.std.specs.Cmp.{Equal-is, IsTotalOrder}
+use Rattle.std.specs.Cmp.{Equal-is}
 use Rattle.std.specs.Option.{IsSome}
 use Rattle.std.specs.Ordering.{nat_cmp, ordering_then, ordering_reverse, is_eq}
 use Rattle.std.specs.declared.cmp.Ordering.{Ordering}

@@ -1,7 +1,6 @@
 -- The last `made` of each caller tells whether its operations stand in order.
-use Rattle.std.proofs.Common.{◌≡◌, ◌≢◌, ℕ, ◌+◌, ◌<◌, ◌≤◌, ◌⊎◌, inl, inr, List, length, get_or, set, All, AllPairs, Option, None, Some, arith, ap, sym, ◌∙◌, refl, subst, get_or-set_same, get_or-set_other}
+use Rattle.std.proofs.Common.{◌≡◌, ◌≢◌, ℕ, ◌+◌, ◌<◌, ◌≤◌, inl, inr, List, length, get_or, set, AllPairs, Option, None, Some, arith, ap, sym, ◌∙◌, subst, get_or-set_same, get_or-set_other}
 use Rattle.std.proofs.lemmas.Bool.{cases_lt, cases_order}
-use Rattle.std.proofs.lemmas.List.{get_or_default}
 use Rattle.trace_conditions.specs.declared.stamped.Stamped.{Stamped}
 use Rattle.trace_conditions.specs.Stamps.{IsBehind}
 use Rattle.trace_conditions.proofs.LatestMade.{same_op}

@@ -1,5 +1,6 @@
 -- Lemmas on the definitions of specs/, in files named for their topics.
+pub mod BegunBatches
+pub mod InTurn
 pub mod LatestMade
 pub mod LatestOfCallers
-pub mod BegunBatches
 pub mod Strong

@@ -1,9 +1,8 @@
 -- An order that callers can make and that is strong is medium.
-use Rattle.std.proofs.Common.{◌≡◌, ℕ, ◌<◌, ◌≤◌, ◌⊎◌, inl, inr, List, length, get_or, All, AllPairs, Option, None, Some, arith}
+use Rattle.std.proofs.Common.{ℕ, ◌<◌, inl, inr, List, get_or, Option, None, Some, arith}
 use Rattle.trace_conditions.specs.declared.stamped.Stamped.{Stamped}
-use Rattle.trace_conditions.specs.declared.ahead.Stamp.TheVariants.{Returned, Evaluated}
 use Rattle.trace_conditions.specs.Stamps.{IsBefore, ComesBefore, IsUpTo}
-use Rattle.trace_conditions.specs.Conditions.{IsStrong, IsMedium, IsMadeInTurn, EndsBefore, HasItsStampsInOrder}
+use Rattle.trace_conditions.specs.Conditions.{IsStrong, IsMedium, IsMadeInTurn}
 
 -- what comes before a stamp comes before each one that isn't less
 before_later : (made : ℕ) (one other : Option ℕ) → IsBefore made one → IsUpTo one other → IsBefore made other
@@ -12,7 +11,7 @@ before_later made None (Some other) before up_to = absurd up_to
 before_later made (Some one) (Some other) before up_to = omega (arith, before, up_to)
 
 -- the one's span ends before the other's begins
-made_before : (made : ℕ) (returned : Option ℕ) (other : ℕ) → IsBefore made returned → ComesBefore returned (Some other) → made < other
+pub made_before : (made : ℕ) (returned : Option ℕ) (other : ℕ) → IsBefore made returned → ComesBefore returned (Some other) → made < other
 made_before made None other before ends = absurd ends
 made_before made (Some returned) other before ends = omega (arith, before, ends)
 

@@ -15,7 +15,7 @@ returns-then-seated-allowance-clause-spent c = let p = c.seated.inside in let a 
 pub perform_put-done-requires-clause-idle : goal.perform_put-done-requires-clause-idle
 perform_put-done-requires-clause-idle c = let p = c.seated.inside in let few = c.if-seated-allowance.false in let a = c.allowance.ensures in let some = c.args.shape.now.some_batch.0 in let ops : List Op = Enq c.args.value ∷ [] in
     begins p.token p.shape p.caller p.batches p.operated _ c.seated.invariant c.args.seated.now c.seated.view_is c.requires.one_caller ops c.args.words.now.table_id c.args.words.now.key c.args.shape.now _
-    c.requires.of_this_lane.0 c.requires.of_this_lane.1 c.requires.size.0 c.requires.size.1 (λ e. cc e)
+    c.requires.of_this_lane.0 c.requires.of_this_lane.1 c.requires.size.0 c.requires.size.1 (λ e. cc e) tt
     (omega (arith, some)) (λ more. omega (arith, few, a, more))
     (subst (λ (vs : List ℕ). (j : ℕ) → get_or vs j 0 < 2 ^ 64) c.lay_out.ensures.puts c.lay_out.ensures.words) (λ k e. refl)
 

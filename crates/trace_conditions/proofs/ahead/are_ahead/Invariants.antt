@@ -1,4 +1,4 @@
-use Rattle.std.proofs.Common.{◌≡◌, ◌<◌, ℕ, ◌≤◌, get_or, length}
+use Rattle.std.proofs.Common.{◌<◌, ℕ, ◌≤◌, get_or}
 use Rattle.trace_conditions.specs.declared.stamped.Stamped.{Stamped}
 use Rattle.trace_conditions.specs.Stamps.{IsBefore}
 use Rattle.trace_conditions.specs.Conditions.{stamp_of}

@@ -1,5 +1,4 @@
-use Rattle.std.proofs.Common.{rules, true≢false, subst, sym, ◌∙◌, None, ◌<◌, All}
-use Rattle.trace_conditions.specs.declared.stamped.Stamped.{Stamped}
+use Rattle.std.proofs.Common.{rules, true≢false, sym, ◌∙◌}
 use Rattle.trace_conditions.proofs.LatestOfCallers.{latest_further, ordered_further, is_behind_latest}
 use Rattle.trace_conditions.proofs.callers.is_in_callers_order.Goals as goal
 

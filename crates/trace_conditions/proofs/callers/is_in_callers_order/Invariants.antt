@@ -1,4 +1,4 @@
-use Rattle.std.proofs.Common.{◌≡◌, ◌<◌, ◌≤◌, ℕ, get_or, length}
+use Rattle.std.proofs.Common.{◌≡◌, ◌<◌, ℕ, get_or, length}
 use Rattle.trace_conditions.specs.declared.stamped.Stamped.{Stamped}
 use Rattle.trace_conditions.proofs.LatestOfCallers.{AreLatest}
 use Rattle.trace_conditions.proofs.callers.is_in_callers_order.Given as goal

@@ -1,7 +1,7 @@
-use Rattle.std.proofs.Common.{rules, true, true≢false, sym, ◌∙◌, ap, refl, subst, arith, Option, None, Some, ℕ, ◌≡◌, ◌+◌}
+use Rattle.std.proofs.Common.{true≢false, sym, ◌∙◌, ap, refl, subst, arith, ◌+◌}
 use Rattle.std.specs.BTreeSet.{BTreeSet, contains}
 use Rattle.std.specs.List.{list_any}
-use Rattle.trace_conditions.proofs.BegunBatches.{order, AreBegun, IsLastBatch, IsWholeBefore, last_further, begun_with, begun_without, begun_on, whole_on, whole_beside, not_whole, some_is, some_is_none, HasBegun}
+use Rattle.trace_conditions.proofs.BegunBatches.{order, AreBegun, last_further, begun_with, begun_without, begun_on, whole_on, whole_beside, not_whole, some_is, some_is_none, HasBegun}
 use Rattle.trace_conditions.proofs.whole.is_whole.Goals as goal
 use Rattle.trace_conditions.proofs.whole.is_whole.Goals.{then-not-is_same+in-Some+else-contains+in_ok-insert-in-Some, then-not-is_same+in-None, else-not-is_same}
 

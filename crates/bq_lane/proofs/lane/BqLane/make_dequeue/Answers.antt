@@ -18,7 +18,7 @@ returns-then-seated-operations-clause-spent c = let p = c.seated.inside in let e
 pub perform_dequeue-done-requires-clause-idle : goal.perform_dequeue-done-requires-clause-idle
 perform_dequeue-done-requires-clause-idle c = let p = c.seated.inside in let shape = ap (λ (l : LaneState). l.shape) c.self.view_is in let few = c.if-seated-operations.false in let a = c.allowance.ensures in
     begins p.token p.shape p.caller p.batches p.operated _ c.seated.invariant c.args.seated.now c.seated.view_is c.requires.one_caller (Deq ∷ []) c.self.inside.table.shared.table_id c.self.inside.table.shared.key c.self.inside.shape _
-    (c.requires.of_this_lane.0 ∙ sym (ap (λ (l : LaneState). l.table) c.self.view_is)) (c.requires.of_this_lane.1 ∙ sym shape) c.self.invariant.0 c.self.invariant.1 some_dequeue
+    (c.requires.of_this_lane.0 ∙ sym (ap (λ (l : LaneState). l.table) c.self.view_is)) (c.requires.of_this_lane.1 ∙ sym shape) c.self.invariant.0 c.self.invariant.1 some_dequeue tt
     c.self.inside.shape.some_batch.0 (λ more. omega (arith, few, a, more))
     (λ j. lit< tt) (λ k _. refl)
 

@@ -15,7 +15,7 @@ returns-then-seated-operations-clause-spent c = let p = c.seated.inside in let e
 pub perform-done-requires-clause-idle : goal.perform-done-requires-clause-idle
 perform-done-requires-clause-idle c = let p = c.seated.inside in let shape = ap (λ (l : LaneState). l.shape) c.self.view_is in let few = c.if-seated-operations.false in let a = c.allowance.ensures in
     begins p.token p.shape p.caller p.batches p.operated _ c.seated.invariant c.args.seated.now c.seated.view_is c.requires.one_caller c.args.ops.now c.self.inside.table.shared.table_id c.self.inside.table.shared.key c.self.inside.shape c.first_point-first.result
-    (c.requires.of_this_lane.0 ∙ sym (ap (λ (l : LaneState). l.table) c.self.view_is)) (c.requires.of_this_lane.1 ∙ sym shape) c.self.invariant.0 c.self.invariant.1 c.requires.some_operation
+    (c.requires.of_this_lane.0 ∙ sym (ap (λ (l : LaneState). l.table) c.self.view_is)) (c.requires.of_this_lane.1 ∙ sym shape) c.self.invariant.0 c.self.invariant.1 c.requires.some_operation c.requires.no_shut
     (subst (λ (s : Shape). length c.args.ops.now ≤ s.batch) (sym shape) c.requires.not_too_long) (λ more. omega (arith, few, a, more))
     (subst (λ (vs : List ℕ). (j : ℕ) → get_or vs j 0 < 2 ^ 64) c.lay_out.ensures.puts c.lay_out.ensures.words) c.first_point-first.ensures
 
