@@ -8,10 +8,11 @@ use Rattle.std.proofs.lemmas.Grind.{flat_map-append}
 use Rattle.std.proofs.lemmas.List.{map-append}
 use Rattle.bq_model.specs.declared.op.Op.{Op}
 use Rattle.bq_model.specs.declared.op.Answer.{Answer}
+use Rattle.bq_model.specs.declared.group.Group.{Group}
 use Rattle.bq_model.specs.Queue.{Queue, queue_after, answer_at_queue}
 use Rattle.bq_model.specs.Replay.{queue_from}
 use Rattle.trace_text.specs.declared.play.Refused.{Refused}
-use Rattle.trace_text.specs.Printed.{unfinished_line, answer_word, op_words, refused_line}
+use Rattle.trace_text.specs.Printed.{unfinished_line, answer_word, op_words, group_words, group_lines, refused_line}
 
 flat : (t g p a b s n : List ℕ) → ((((((t ++ g) ++ p) ++ a) ++ p) ++ b) ++ s) ++ n ≡ t ++ ((g ++ ((p ++ a) ++ ((p ++ b) ++ s))) ++ n)
 flat t g p a b s n = simp append_assoc
@@ -80,6 +81,18 @@ module _ (q next : Queue) (ops : List Op) (k : ℕ) (d : Op) (inside : k < lengt
 
   pub queue_left-more : (whole : Queue) → queue_from q (drop k ops) ≡ whole → queue_from next (drop (k + 1) ops) ≡ whole
   queue_left-more whole before = ap (λ (r : Queue). queue_from r (drop (k + 1) ops)) after ∙ (ap (queue_from q) (sym split) ∙ before)
+
+-- ---- groups
+
+module _ (q next : Queue) (h : List Group) (k : ℕ) (g : Group) (inside : k < length h) (item : g ≡ get_or h k g) (after : next ≡ queue_from q g.ops) where
+  -- one more group
+  pub groups_printed-more : (old new whole : List ℕ) → new ≡ old ++ printed_line (group_words q g) → old ++ printed_lines (group_lines q (drop k h)) ≡ whole → new ++ printed_lines (group_lines next (drop (k + 1) h)) ≡ whole
+  groups_printed-more old new whole grown before =
+      let rest = drop (k + 1) h in
+      let split : drop k h ≡ g ∷ rest = rw add-one (drop-cons h k g inside ∙ ap (λ (x : Group). x ∷ drop (suc k) h) (sym item)) in
+      ap (λ (t : List ℕ). t ++ printed_lines (group_lines next rest)) grown
+      ∙ (ap (λ (r : Queue). (old ++ printed_line (group_words q g)) ++ printed_lines (group_lines r rest)) after
+      ∙ (append_assoc old (printed_line (group_words q g)) (printed_lines (group_lines (queue_from q g.ops) rest)) ∙ (ap (λ (left : List Group). old ++ printed_lines (group_lines q left)) (sym split) ∙ before)))
 
 -- ---- refusals
 

@@ -3,7 +3,7 @@ use Rattle.std.proofs.Common.{◌≡◌, ◌&&◌, ℕ, Bool, true, false, not, 
 use Rattle.std.specs.List.{list_all}
 use Rattle.std.specs.Str.{bytes_eq}
 use Rattle.bq_model.specs.declared.fault.TextCause.TheVariants.{BadWord}
-use Rattle.trace_text.specs.Claims.{has_letter, shut_before, claims_of}
+use Rattle.trace_text.specs.Claims.{has_letter, claims_of}
 
 abbrev pub begins_shut : List (List ℕ) → Bool
 begins_shut [] = false
