@@ -2,3 +2,4 @@
 pub mod CutLemmas
 pub mod FindLemmas
 pub mod RoundLemmas
+pub mod ReaderLemmas

@@ -23,7 +23,7 @@ pub record IsRest (bytes text line : List ℕ) : Type 0 where
 -- what is found of the first `go` line
 abbrev pub Finds : List ℕ → Found → Type 0
 Finds bytes (Round text end) = (text < end) × (end ≤ length bytes) × IsRound (take end bytes) (take text bytes)
-Finds bytes (Open line) = (line ≤ length bytes) × IsOpen (take line bytes) × IsLine (drop line bytes)
+Finds bytes (Open line) = (line ≤ length bytes) × IsOpen (take line bytes) × IsLine (drop line bytes) × ((cut bytes).texts ≡ [])
 
 -- Of these bytes the lines before `line` are no `go` lines, and from there to `seen` no line feed stands.
 pub record IsSearched (bytes : List ℕ) (line seen : ℕ) : Type 0 where

@@ -3,3 +3,5 @@ pub mod Stream
 pub mod Rounds
 pub mod Served
 pub mod Cutting
+pub mod Reading
+pub mod Coming

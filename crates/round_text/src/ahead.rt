@@ -1,9 +1,12 @@
 // The bytes that were read and belong to rounds still to come.
-ghost use Rattle.std.specs.Prelude.{◌≡◌, ◌≤◌, [], ◌++◌, length, drop, OnOk, OnErr};
+ghost use Rattle.std.specs.Prelude.{◌≡◌, ◌^◌, ◌<◌, ◌≤◌, [], length, drop, is_some, IfOk, OnOk, OnErr, IsErrOf};
+ghost use Rattle.bq_model.specs.Device.{Rose};
 ghost use Rattle.round_text.specs.Cutting.{Finds};
+ghost use Rattle.round_text.specs.Coming.{TookPiece};
 
 use crate::find::{Found, first_go};
-use bq_model::OutOfMemory;
+use bq_model::{OutOfMemory, Source};
+use byte_streams::{InputFault, PIECE, read_piece, zeros};
 use std::alloc::Global;
 use std::marker::Model;
 
@@ -59,13 +62,23 @@ impl Ahead {
         found
     }
 
-    /// Appends what was read.
-    pub(crate) fn append(&mut self, piece: &[u8]) -> Result<(), OutOfMemory>
-        ensures ok { OnOk result (self.new ≡ self.old ++ piece.now) }
-        ensures err { OnErr result (self.new ≡ self.old) }
+    /// Reads a piece, and appends it. There is none at the end of the source alone.
+    pub(crate) fn read<S: Source>(
+        &mut self,
+        alloc: Global,
+        source: &mut S,
+    ) -> Result<bool, InputFault>
+        ensures took { IfOk result (λ more. TookPiece more self.old self.new (S.left source.old) (S.left source.new)) }
+        ensures failed_reads_nothing { IsErrOf result InputFault.Failed → (self.new ≡ self.old) × (S.left source.new ≡ S.left source.old) }
+        ensures failed_is_counted { IsErrOf result InputFault.Failed → Rose (S.faults source.old) (S.faults source.new) }
+        ensures within_memory { OnOk result (length self.new < 2 ^ 64) }
+        ensures told { is_some (S.left source.new) ≡ is_some (S.left source.old) }
+        ensures count_never_falls { S.faults source.old ≤ S.faults source.new }
     {
+        let mut buffer = zeros(alloc, PIECE)?;
+        let piece = read_piece(source, buffer.as_mut_slice())?;
         self.bytes.extend_from_slice(piece)?;
-        Ok(())
+        Ok(!piece.is_empty())
     }
 
     /// Lets a round go: so many bytes at the front.

@@ -12,7 +12,7 @@ use std::alloc::Global;
 pub const MOST_ROUNDS: usize = 10_000;
 
 /// The most bytes of a round before its `go` line.
-const MOST_BYTES: usize = 16_777_216;
+pub(crate) const MOST_BYTES: usize = 16_777_216;
 
 /// What is wrong with a stream, and in which round, counted from 0.
 #[derive(Clone, Copy, Debug, PartialEq, Eq)]

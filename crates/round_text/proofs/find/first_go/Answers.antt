@@ -1,8 +1,10 @@
-use Rattle.std.proofs.Common.{◌≡◌, ℕ, ◌+◌, ◌-◌, List, take, drop, sym, subst, ◌∙◌, arith}
+use Rattle.std.proofs.Common.{◌≡◌, ℕ, ◌+◌, ◌-◌, List, take, drop, sym, subst, ◌∙◌, arith, ap}
 use Rattle.std.proofs.lemmas.List.Elements.{All-nil}
 use Rattle.round_text.specs.Cutting.{IsLine, IsOpen, IsRound}
 use Rattle.round_text.proofs.CutLemmas.{open_more, round_at_go}
 use Rattle.round_text.proofs.FindLemmas.{feed_within, line_is, through_feed, line_to_end}
+use Rattle.round_text.specs.Stream.{Cut}
+use Rattle.round_text.proofs.RoundLemmas.{cut_at_line}
 use Rattle.round_text.proofs.find.first_go.Goals as goal
 
 pub returns-then-is_go : goal.returns-then-is_go
@@ -43,5 +45,7 @@ loop-feed-preserved c =
 pub returns : goal.returns
 returns c =
     let bytes = c.args.bytes.now in
+    let line = c.loop-feed.line in
     let at = c.loop-feed.invariant in
-    (omega arith, at.lines, line_to_end bytes c.loop-feed.line c.loop-feed.seen at.order at.within at.no_feed c.in_default.ensures)
+    let is = line_to_end bytes line c.loop-feed.seen at.order at.within at.no_feed c.in_default.ensures in
+    (omega arith, at.lines, is, ap (λ (c : Cut). c.texts) (cut_at_line bytes line at.lines is))
