@@ -3,3 +3,4 @@ pub mod CutLemmas
 pub mod FindLemmas
 pub mod RoundLemmas
 pub mod ReaderLemmas
+pub mod LongLemmas

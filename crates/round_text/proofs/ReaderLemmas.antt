@@ -96,6 +96,21 @@ refused_round number ahead left text end found below round is =
     ∙ ap (λ (b : Bool). cond b (none_but number (fault 1 TooMany)) (behind_round number (jobs_of text) (rounds_from (number + 1) (texts_at_end after) (rest_at_end after)))) (not_most number below)
     ∙ ap (λ (said : Result (List Unit) TextFault). behind_round number said (rounds_from (number + 1) (texts_at_end after) (rest_at_end after))) is
 
+-- bytes that no `go` line ends
+pub rest_short : (number : ℕ) → number < most_rounds → (rest : List ℕ) → 0 < length rest → length rest ≤ most_bytes → rest_of number rest ≡ none_but number (fault 1 OpenRound)
+rest_short number below [] some short = absurd (omega arith)
+rest_short number below (byte ∷ rest) some short =
+    let b : nat_le (length (byte ∷ rest)) most_bytes ≡ true = grind (arith, nat_tests) in
+    ap (λ (t : Bool). cond t (none_but number (fault 1 TooMany)) (cond (nat_le (length (byte ∷ rest)) most_bytes) (none_but number (fault 1 OpenRound)) (none_but number (fault 0 TooLong)))) (not_most number below)
+    ∙ ap (λ (t : Bool). cond t (none_but number (fault 1 OpenRound)) (none_but number (fault 0 TooLong))) b
+
+pub rest_long : (number : ℕ) → number < most_rounds → (rest : List ℕ) → most_bytes < length rest → rest_of number rest ≡ none_but number (fault 0 TooLong)
+rest_long number below [] long = absurd (omega arith)
+rest_long number below (byte ∷ rest) long =
+    let b : nat_le (length (byte ∷ rest)) most_bytes ≡ false = grind (arith, nat_tests) in
+    ap (λ (t : Bool). cond t (none_but number (fault 1 TooMany)) (cond (nat_le (length (byte ∷ rest)) most_bytes) (none_but number (fault 1 OpenRound)) (none_but number (fault 0 TooLong)))) (not_most number below)
+    ∙ ap (λ (t : Bool). cond t (none_but number (fault 1 OpenRound)) (none_but number (fault 0 TooLong))) b
+
 -- the stream ends behind these lines
 module _ (number : ℕ) (ahead : List ℕ) (line : ℕ) (lines : IsOpen (take line ahead)) (is : IsLine (drop line ahead)) (below : number < most_rounds) where
   pub last_round : is_go (drop line ahead) ≡ true → rounds_at_end number (cut ahead) ≡ behind_round number (jobs_of (take line ahead)) (record { files = []; fault = None })
@@ -109,20 +124,6 @@ module _ (number : ℕ) (ahead : List ℕ) (line : ℕ) (lines : IsOpen (take li
       ap (rounds_at_end number) (cut_at_line ahead line lines is)
       ∙ ap (λ (b : Bool). rounds_from number (cond b (take line ahead ∷ []) []) (cond b [] (take line ahead ++ drop line ahead))) other
       ∙ ap (rest_of number) (take-append-drop line ahead)
-
-  pub rest_short : (rest : List ℕ) → 0 < length rest → length rest ≤ most_bytes → rest_of number rest ≡ none_but number (fault 1 OpenRound)
-  rest_short [] some short = absurd (omega arith)
-  rest_short (byte ∷ rest) some short =
-      let b : nat_le (length (byte ∷ rest)) most_bytes ≡ true = grind (arith, nat_tests) in
-      ap (λ (t : Bool). cond t (none_but number (fault 1 TooMany)) (cond (nat_le (length (byte ∷ rest)) most_bytes) (none_but number (fault 1 OpenRound)) (none_but number (fault 0 TooLong)))) (not_most number below)
-      ∙ ap (λ (t : Bool). cond t (none_but number (fault 1 OpenRound)) (none_but number (fault 0 TooLong))) b
-
-  pub rest_long : (rest : List ℕ) → most_bytes < length rest → rest_of number rest ≡ none_but number (fault 0 TooLong)
-  rest_long [] long = absurd (omega arith)
-  rest_long (byte ∷ rest) long =
-      let b : nat_le (length (byte ∷ rest)) most_bytes ≡ false = grind (arith, nat_tests) in
-      ap (λ (t : Bool). cond t (none_but number (fault 1 TooMany)) (cond (nat_le (length (byte ∷ rest)) most_bytes) (none_but number (fault 1 OpenRound)) (none_but number (fault 0 TooLong)))) (not_most number below)
-      ∙ ap (λ (t : Bool). cond t (none_but number (fault 1 OpenRound)) (none_but number (fault 0 TooLong))) b
 
 -- nothing more is left
 pub at_end : (rounds : Rounds) (at : Reading) (left : Option (List ℕ)) → IsAtEnd left → rounds_at_end at.number (cut at.ahead) ≡ rounds → RestIs rounds at left

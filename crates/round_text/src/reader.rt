@@ -56,8 +56,8 @@ impl RoundReader {
         }
     }
 
-    /// Reads on up to the next `go` line or the end of the source. Each read asks for 65,536 bytes. After a refusal or a
-    /// failure the reader is of no use.
+    /// Reads on up to the next `go` line or the end of the source, or until the lines of the round have more bytes than a
+    /// text may have. Each read asks for 65,536 bytes. After a refusal or a failure the reader is of no use.
     pub fn next<S: Source>(&mut self, alloc: Global, source: &mut S) -> Result<Next, InputFault>
         requires { self.old.number ≤ most_rounds }
         ensures comes { IfOk result (λ next. Comes next self.old self.new (S.left source.old) (S.left source.new)) }
@@ -75,6 +75,9 @@ impl RoundReader {
                 Found::Round { text, end } => return Ok(self.round(alloc, text, end)?),
                 Found::Open { line } => line,
             };
+            if line > MOST_BYTES {
+                return Ok(refused(0, TextCause::TooLong));
+            }
             if !self.ahead.read(alloc, source)? {
                 return Ok(self.last(alloc, line)?);
             }

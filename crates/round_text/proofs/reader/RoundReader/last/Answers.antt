@@ -23,7 +23,7 @@ returns-then-bytes-le-MOST_BYTES c =
     λ left end. subst (λ (next : Next). Comes next at at left left) (sym c.refused.ensures)
     (at_end (none_but at.number (fault 1 OpenRound)) at left end
     (last_rest at.number at.ahead line c.requires.lines c.requires.no_feed c.requires.not_beyond other
-    ∙ rest_short at.number at.ahead line c.requires.lines c.requires.no_feed c.requires.not_beyond at.ahead some short))
+    ∙ rest_short at.number c.requires.not_beyond at.ahead some short))
 
 pub returns : goal.returns
 returns c =
@@ -37,4 +37,4 @@ returns c =
     λ left end. subst (λ (next : Next). Comes next at at left left) (sym c.refused-2.ensures)
     (at_end (none_but at.number (fault 0 TooLong)) at left end
     (last_rest at.number at.ahead line c.requires.lines c.requires.no_feed c.requires.not_beyond other
-    ∙ rest_long at.number at.ahead line c.requires.lines c.requires.no_feed c.requires.not_beyond at.ahead long))
+    ∙ rest_long at.number c.requires.not_beyond at.ahead long))
