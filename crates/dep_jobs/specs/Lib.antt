@@ -1,0 +1,5 @@
+-- Jobs that name earlier jobs: what they are once those are answered, their answers, and their runs.
+pub mod Resolve
+pub mod Answers
+pub mod LevelFile
+pub mod Texts
