@@ -7,3 +7,4 @@ pub mod Reached
 pub mod Replied
 pub mod Files
 pub mod Rounds
+pub mod PlainLemmas

@@ -3,3 +3,4 @@ pub mod Resolve
 pub mod Answers
 pub mod LevelFile
 pub mod Texts
+pub mod Plain

@@ -6,10 +6,12 @@
 //! `specs/Resolve.antt`, the answers in `specs/Answers.antt`, and the file of a level in `specs/LevelFile.antt`.
 #![tactic(auto)]
 
+mod laws;
 mod level_file;
 mod levels;
 mod resolve;
 mod run;
 mod texts;
 
+pub use laws::jobs_that_name_none_are_answered_as_they_stand;
 pub use run::{DepDone, run_deps};
