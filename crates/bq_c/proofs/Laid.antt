@@ -23,14 +23,16 @@ same_length (op ∷ ops) = ap suc (same_length ops)
 pub as_many : (c : ℕ) (old new : List Group) (ops : List BqOp) (batch : List Op) (given answers : List Answer) → batch ≡ map op_of ops → Grew c batch given old new → answers ≡ given → length answers ≡ length ops
 as_many c old new ops batch given answers laid grew same = ap length (same ∙ grew.answered) ∙ (one_each _ batch ∙ (ap length laid ∙ same_length ops))
 
+-- an operation of C is no Shut
+plain : (kind value : ℕ) (ops : List Op) → NoShut ops → NoShut (by_kind kind value ∷ ops)
+plain zero value ops none = none
+plain (suc zero) value ops none = none
+plain (suc (suc k)) value ops none = none
+
 -- none of them is a Shut
 pub laid_plain : (ops : List BqOp) → NoShut (map op_of ops)
 laid_plain [] = tt
-laid_plain (op ∷ ops) = by op.kind where
-  by : (kind : ℕ) → NoShut (by_kind kind op.value ∷ map op_of ops)
-  by zero = laid_plain ops
-  by (suc zero) = laid_plain ops
-  by (suc (suc k)) = laid_plain ops
+laid_plain (op ∷ ops) = plain op.kind op.value (map op_of ops) (laid_plain ops)
 
 -- the operations so far, and one more
 pub next_laid : (ops : List BqOp) (i : ℕ) (d : BqOp) (old new : List Op) → i < length ops → old ≡ map op_of (take i ops) → new ≡ old ++ op_of (get_or ops i d) ∷ [] → new ≡ map op_of (take (i + 1) ops)

@@ -1,5 +1,6 @@
 -- Lemmas on the definitions of specs/, in files named for their topics.
 pub mod Applies
+pub mod Done
 pub mod Enqueued
 pub mod Makes
 pub mod NewPasses

@@ -248,6 +248,7 @@ impl Lane for BqLane {
     }
 
     fn close(self, pass: Pass) -> Book {
+        pass.seated.is_never_shut();
         Book::new(pass)
     }
 }

@@ -117,6 +117,13 @@ impl Seated {
             scratch,
         }
     }
+
+    /// What its callers have seen has no Shut.
+    pub(crate) fn is_never_shut(&self)
+        ensures { NeverShut self.now.seen }
+    {
+        let _ = &self.token;
+    }
 }
 
 /// What one caller or several keep of a `BqLane` between their calls.

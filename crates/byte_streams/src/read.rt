@@ -3,7 +3,7 @@ ghost use Rattle.std.specs.Prelude.{◌≡◌, ◌<◌, ◌≤◌, [], length, v
 ghost use Rattle.std.specs.Io.KnownBytes.{Consumes, IsAtEnd};
 ghost use Rattle.bq_model.specs.Device.{Rose};
 
-use bq_model::{Failed, Source};
+use bq_model::{Failed, OutOfMemory, Source};
 use std::alloc::{AllocError, Global};
 
 /// How many bytes one read asks for.
@@ -38,6 +38,16 @@ impl From<AllocError> for InputFault {
     }
 }
 
+impl From<OutOfMemory> for InputFault {
+    ghost use Rattle.byte_streams.specs.declared.read.InputFault.TheVariants.{Memory};
+
+    ghost from_gives = { λ _ fault. fault ≡ Memory };
+
+    fn from(_error: OutOfMemory) -> Self {
+        InputFault::Memory
+    }
+}
+
 /// As many zeros, a buffer to read into.
 pub fn zeros(alloc: Global, len: usize) -> Result<Vec<u8>, AllocError>
     ensures { IfOk result (λ buffer. vec_len buffer ≡ len) }
@@ -51,6 +61,7 @@ pub fn read_piece<'a, S: Source>(source: &mut S, piece: &'a mut [u8]) -> Result<
     ensures consumed { IfOk result (λ bytes. Consumes (S.left source.old) (S.left source.new) bytes.now) }
     ensures fits { IfOk result (λ bytes. length bytes.now ≤ length piece.old) }
     ensures empty_at_end { IfOk result (λ bytes. bytes.now ≡ [] → IsAtEnd (S.left source.new)) }
+    ensures failed_reads_nothing { OnErr result (S.left source.new ≡ S.left source.old) }
     ensures failed_is_counted { OnErr result (Rose (S.faults source.old) (S.faults source.new)) }
     ensures told { is_some (S.left source.new) ≡ is_some (S.left source.old) }
     ensures count_never_falls { S.faults source.old ≤ S.faults source.new }

@@ -1,5 +1,5 @@
 -- The levels of jobs: a job without references has level 0, and another one more than the greatest level of those it names.
-use Rattle.std.specs.Prelude.{ℕ, ◌+◌, List, [], ◌∷◌, ◌++◌, max, map, slice_index}
+use Rattle.std.specs.Prelude.{ℕ, ◌+◌, List, [], ◌∷◌, max, map, slice_index}
 use Rattle.dep_text.specs.declared.job.Arg.{Arg}
 use Rattle.dep_text.specs.declared.job.Arg.TheVariants.{Number, Of}
 use Rattle.dep_text.specs.declared.job.Piece.{Piece}
@@ -7,6 +7,7 @@ use Rattle.dep_text.specs.declared.job.Piece.TheVariants.{Plain, Of as OfBytes}
 use Rattle.dep_text.specs.declared.job.DepWork.{DepWork}
 use Rattle.dep_text.specs.declared.job.DepWork.TheVariants.{Sum, Digest, Count, Mix, Words}
 use Rattle.dep_text.specs.declared.job.DepJob.{DepJob}
+use Rattle.dep_text.specs.Grown.{grown}
 
 -- no job has this level or one above it
 abbrev pub most_levels : ℕ
@@ -35,11 +36,10 @@ level_behind levels (Count byte piece) = piece_level levels piece
 level_behind levels (Mix start turns) = arg_level levels start
 level_behind levels (Words words) = 0
 
--- these levels, and those of the jobs behind them
-abbrev pub levels_onto : List ℕ → List DepJob → List ℕ
-levels_onto levels [] = levels
-levels_onto levels (job ∷ jobs) = levels_onto (levels ++ level_behind levels job.work ∷ []) jobs
-
 -- the level of each job, in file order
 abbrev pub levels_of : List DepJob → List ℕ
-levels_of jobs = levels_onto [] jobs
+levels_of jobs = grown (λ levels job. level_behind levels job.work) jobs
+
+-- how many levels there are, where jobs have these levels
+abbrev pub depth_of : List ℕ → ℕ
+depth_of levels = greatest (map (λ level. level + 1) levels)

@@ -39,7 +39,7 @@ impl DepFile {
     /// The jobs, first to last.
     pub fn jobs(&self) -> &[DepJob]
         ensures jobs { result.now ≡ self.now }
-        ensures ranges { IsDepFile self.now }
+        ensures ranges { IsDepFile result.now }
     {
         self.jobs.as_slice()
     }

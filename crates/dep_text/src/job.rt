@@ -49,9 +49,9 @@ pub struct DepJob {
     pub work: DepWork,
 }
 
-/// Where an answer is wanted.
-#[derive(Clone, Copy)]
-pub(crate) enum Place {
+/// Where the answer of a job that is named stands.
+#[derive(Clone, Copy, Debug)]
+pub enum Place {
     /// In place of a number.
     AsNumber,
     /// In place of bytes, of which an answer has at most 64.

@@ -20,6 +20,6 @@ mod references;
 mod tests;
 
 pub use file::DepFile;
-pub use job::{Arg, Args, DepJob, DepWork, Piece};
+pub use job::{Arg, Args, DepJob, DepWork, Piece, Place};
 pub use laws::{first_cause_of_a_dep_line_is_named, first_faulty_line_of_deps_is_named};
 pub use read::read_deps;

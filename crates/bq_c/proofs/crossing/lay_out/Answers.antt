@@ -1,11 +1,11 @@
-use Rattle.std.proofs.Common.{List, rules, sym, subst}
+use Rattle.std.proofs.Common.{List, rules, sym, subst, take}
 use Rattle.bq_model.specs.declared.op.Op.{Op}
 use Rattle.bq_model.specs.NoShut.{NoShut}
 use Rattle.bq_c.proofs.Laid.{laid_plain, next_laid, next_known}
 use Rattle.bq_c.proofs.crossing.lay_out.Goals as goal
 
 pub put-requires-clause-no_shut : goal.put-requires-clause-no_shut
-put-requires-clause-no_shut c = subst NoShut (sym c.loop-op.invariant.laid) (laid_plain _)
+put-requires-clause-no_shut c = subst NoShut (sym c.loop-op.invariant.laid) (laid_plain (take c.loop-op.op-index c.args.ops.now))
 
 pub loop-op-preserved : goal.loop-op-preserved
 loop-op-preserved c = let i = c.loop-op.invariant in record {

@@ -6,4 +6,4 @@ use Rattle.dep_text.proofs.level.greatest_level.Goals as goal
 
 pub loop-arg-preserved : goal.loop-arg-preserved
 loop-arg-preserved c =
-    c.max-level.ensures ∙ (ap₂ max c.loop-arg.invariant c.arg_level.ensures ∙ sym (greatest-more c.args.levels.now c.args.args.now c.loop-arg.arg-index _ c.loop-arg-test.true))
+    c.max-level.ensures ∙ (ap₂ max c.loop-arg.invariant c.arg_level.ensures ∙ sym (greatest-more (arg_level c.args.levels.now) c.args.args.now c.loop-arg.arg-index _ c.loop-arg-test.true))
