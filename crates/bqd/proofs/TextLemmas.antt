@@ -9,7 +9,7 @@ use Rattle.text_lines.specs.Reading.{most_bytes, fault, whole_text}
 use Rattle.trace_text.specs.declared.verdict.Verdict.{Verdict}
 use Rattle.trace_text.specs.declared.verdict.Verdict.TheVariants.{Legal, Illegal}
 use Rattle.text_lines.specs.Parts.{◌>>=◌}
-use Rattle.trace_text.specs.HistoryText.{History, meaning, nothing_yet, history_at_end}
+use Rattle.trace_text.specs.HistoryText.{History, meaning, nothing_yet, history_at_end, version_word, is_second}
 use Rattle.trace_text.specs.Verdicts.{verdict_of, verdict_in}
 use Rattle.trace_text.specs.Played.{Playing}
 use Rattle.trace_text.specs.ScheduleText.{play_meaning, machine_at_end}
@@ -119,7 +119,7 @@ verdict_in-take bytes = ap (λ (said : Result History TextFault). said >>= (λ h
 pub short_history : (input : List ℕ) (verdict : Verdict) → verdict_in input ≡ Ok verdict → length input ≤ most_bytes
 short_history input verdict is =
     leb-true (length input) most_bytes
-    (short_if_ok (nat_le (length input) most_bytes) (whole_text (codes "bqhist") (codes "1") meaning nothing_yet (lines_of input)) (fault 0 TooLong)
+    (short_if_ok (nat_le (length input) most_bytes) (whole_text (codes "bqhist") (version_word (is_second input)) meaning (nothing_yet (is_second input)) (lines_of input)) (fault 0 TooLong)
     (λ say. history_at_end (length (lines_of input) + 1) say.callers say.entries) (λ history. Ok (verdict_of history)) verdict is)
 
 abbrev due_check : List ℕ → Due
