@@ -1,2 +1,3 @@
 -- Lemmas that the tests share.
 pub mod Lasts
+pub mod Pushes

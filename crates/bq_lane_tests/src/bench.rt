@@ -1,5 +1,6 @@
 // A lane of one caller, and batches for it.
 ghost use Rattle.std.specs.Prelude.{◌≡◌, ◌<◌, ◌≤◌, ◌^◌, length, IfOk};
+ghost use Rattle.bq_model.specs.NoShut.{NoShut};
 
 use bq_lane::{BqLane, Pass};
 use bq_model::{Answer, Answers, Batch, Lane, Op, OutOfMemory, Shape};
@@ -19,6 +20,26 @@ pub fn alone(alloc: Global, shape: &Shape) -> Result<(BqLane, Pass), OutOfMemory
     }
 }
 
+// Puts the operation into the batch, where there is room and it is no Shut.
+#[tactic(auto, using(crate::proofs::Pushes::enqueue_pushed, crate::proofs::Pushes::dequeue_pushed))]
+fn put(batch: &mut Batch, op: Op)
+    requires capacity { batch.old.capacity ≡ 8 }
+    requires room { length batch.old.items ≤ 8 }
+    requires no_shut { NoShut batch.old.items }
+    ensures capacity { batch.new.capacity ≡ 8 }
+    ensures room { length batch.new.items ≤ 8 }
+    ensures no_shut { NoShut batch.new.items }
+{
+    if batch.len() >= 8 {
+        return;
+    }
+    match op {
+        Op::Enq(value) => batch.push(Op::Enq(value)),
+        Op::Deq => batch.push(Op::Deq),
+        Op::Shut => {}
+    }
+}
+
 /// The answers to these operations as one batch. None where they are no batch, or are refused.
 pub fn applied(
     alloc: Global,
@@ -34,9 +55,7 @@ pub fn applied(
     let mut batch = Batch::new(alloc, 8)?;
     let mut out = Answers::new(alloc, 8)?;
     for op in ops {
-        if batch.len() < 8 && !matches!(op, Op::Shut) {
-            batch.push(*op);
-        }
+        put(&mut batch, *op);
     }
     if batch.is_empty() {
         return Ok(None);
