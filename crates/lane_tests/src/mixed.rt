@@ -111,7 +111,7 @@ fn works<L: Lane>(
     let mut next = first;
     for (number, length) in plan.lengths.iter().enumerate() {
         fill(&mut batch, plan.kind, number, *length, &mut next);
-        if batch.is_empty() || lane.apply(&mut pass, &batch, &mut out).is_err() {
+        if batch.len() == 0 || lane.apply(&mut pass, &batch, &mut out).is_err() {
             return Err(OutOfMemory);
         }
         take_values(&mut got, out.as_slice())?;
